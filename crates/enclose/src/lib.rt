@@ -1,0 +1,4 @@
+//! Arithmetic that encloses.
+#![tactic(auto)]
+
+pub mod arith;

@@ -1,0 +1,15 @@
+pub mod Decimal
+pub mod Ends
+pub mod Frac
+pub mod FracLaws
+pub mod IntLaws
+pub mod Ints
+pub mod Linear
+pub mod Member
+pub mod Operations
+pub mod Order
+pub mod Ring
+pub mod RingLaws
+pub mod Root
+pub mod Rounding
+pub mod Steps

@@ -1,0 +1,24 @@
+//! The answer of one operation.
+
+/// Why a value is lost: what the arithmetic can't enclose.
+#[derive(Clone, Copy, Debug, PartialEq, Eq)]
+pub enum Why {
+    /// A root or a slope that isn't certain to exist.
+    Root,
+    /// A divisor that may be 0.
+    Zero,
+    /// A number past the greatest size that is kept.
+    Range,
+}
+
+/// The answer of one operation: a value, the certainty that no number meets the row, or the loss
+/// of the value.
+#[derive(Clone, Copy, Debug, PartialEq, Eq)]
+pub enum Step<T> {
+    /// A value that encloses every exact answer.
+    Val(T),
+    /// No number meets the row.
+    Empty,
+    /// Nothing is known, and why.
+    Lost(Why),
+}
