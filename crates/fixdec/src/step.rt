@@ -22,3 +22,9 @@ pub enum Step<T> {
     /// Nothing is known, and why.
     Lost(Why),
 }
+
+impl<T> Default for Step<T> {
+    fn default() -> Step<T> {
+        Step::Empty
+    }
+}

@@ -1,0 +1,91 @@
+//! Jobs: what is asked of a lens.
+
+use fixdec::dec::Dec;
+
+/// One line of a job that asks for rays. `z` and `r` are the pupil that is in force there.
+#[derive(Clone, Copy, Debug, PartialEq, Eq)]
+pub enum Ask {
+    /// One ray from the vertex plane of surface 1.
+    Ray {
+        /// The height in x.
+        x: Dec,
+        /// The height in y.
+        y: Dec,
+        /// The slope in x.
+        p: Dec,
+        /// The slope in y.
+        q: Dec,
+    },
+    /// One ray of a parallel beam, by its pupil coordinates.
+    Aim {
+        /// The slope in x.
+        p: Dec,
+        /// The slope in y.
+        q: Dec,
+        /// The pupil coordinate in x.
+        px: Dec,
+        /// The pupil coordinate in y.
+        py: Dec,
+        /// The place of the pupil plane, from vertex 1.
+        z: Dec,
+        /// The radius of the pupil.
+        r: Dec,
+    },
+    /// A fan of rays along each pupil axis, `2 n + 1` on each.
+    Fan {
+        /// The slope in x.
+        p: Dec,
+        /// The slope in y.
+        q: Dec,
+        /// The number of rays on each side, from 1 to 1000.
+        n: u32,
+        /// The place of the pupil plane, from vertex 1.
+        z: Dec,
+        /// The radius of the pupil.
+        r: Dec,
+    },
+    /// A square grid of `(2 n + 1)^2` rays over the pupil.
+    Spot {
+        /// The slope in x.
+        p: Dec,
+        /// The slope in y.
+        q: Dec,
+        /// The number of rays on each side, from 1 to 60.
+        n: u32,
+        /// The place of the pupil plane, from vertex 1.
+        z: Dec,
+        /// The radius of the pupil.
+        r: Dec,
+    },
+    /// One paraxial ray.
+    First {
+        /// The height.
+        y: Dec,
+        /// The slope.
+        u: Dec,
+    },
+    /// A marginal and a chief paraxial ray.
+    Seidel {
+        /// The height of the marginal ray.
+        y: Dec,
+        /// The slope of the marginal ray.
+        u: Dec,
+        /// The height of the chief ray.
+        yb: Dec,
+        /// The slope of the chief ray.
+        ub: Dec,
+    },
+}
+
+/// A job.
+#[derive(Debug, PartialEq, Eq, Drop)]
+pub struct Job {
+    /// The wavelength in micrometres, above 0; None is the lens's primary one.
+    pub wave: Option<Dec>,
+    /// The residual number r, from 4 to 14.
+    pub res: u32,
+    /// The width bound of a row's intervals, above 0 and at most 1000.
+    pub width: Dec,
+    /// The lines that ask for rays, in order.
+    pub asks: Vec<Ask>,
+}

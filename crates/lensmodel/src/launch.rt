@@ -1,0 +1,43 @@
+//! Rays that are asked for.
+
+use fixdec::dec::Dec;
+
+/// The fraction `num / den`, `den` being at least 1.
+#[derive(Clone, Copy, Debug, PartialEq, Eq)]
+pub struct Ratio {
+    /// The numerator.
+    pub num: Dec,
+    /// The denominator.
+    pub den: u32,
+}
+
+/// One ray, where it starts: at the vertex plane of surface 1, with slopes `p` in x and `q` in y.
+#[derive(Clone, Copy, Debug, PartialEq, Eq)]
+pub enum Launch {
+    /// A ray by its point.
+    Plain {
+        /// The height in x.
+        x: Dec,
+        /// The height in y.
+        y: Dec,
+        /// The slope in x.
+        p: Dec,
+        /// The slope in y.
+        q: Dec,
+    },
+    /// A ray by its point in the pupil plane: `x = r px - p z`, `y = r py - q z`.
+    Pupil {
+        /// The slope in x.
+        p: Dec,
+        /// The slope in y.
+        q: Dec,
+        /// The pupil coordinate in x.
+        px: Ratio,
+        /// The pupil coordinate in y.
+        py: Ratio,
+        /// The place of the pupil plane, from vertex 1.
+        z: Dec,
+        /// The radius of the pupil, at least 0.
+        r: Dec,
+    },
+}
