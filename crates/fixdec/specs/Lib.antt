@@ -12,4 +12,5 @@ pub mod Ring
 pub mod RingLaws
 pub mod Root
 pub mod Rounding
+pub mod Scaled
 pub mod Steps

@@ -1,0 +1,3 @@
+pub mod Dispersion
+pub mod IndexRows
+pub mod Residual

@@ -1,0 +1,101 @@
+//! The refractive index of a medium.
+
+ghost use Rattle.std.specs.Prelude.{◌≡◌, ℕ, ℤ, pos, ◌≤◌, ◌≤ℤ◌};
+ghost use Rattle.fixdec.specs.Ends.{Ends, InCap};
+ghost use Rattle.lensmodel.specs.IndexRows as rows;
+
+use enclose::arith::Arith;
+use exactdec::scale;
+use fixdec::dec::Dec;
+use fixdec::span::Span;
+use fixdec::step::Step;
+use lensmodel::glass::{Glass, Medium};
+
+/// The value of a step, or the function's answer where it has none.
+macro_rules! val {
+    ($e:expr) => {
+        match $e {
+            Step::Val(x) => x,
+            Step::Empty => return Step::Empty,
+            Step::Lost(w) => return Step::Lost(w),
+        }
+    };
+}
+
+/// A decimal as a value.
+fn decimal<T: Arith>(v: &Dec) -> Step<T>
+    requires { T.SCALE ≤ 15 }
+    ensures { result ≡ rows.decimal_row T.ops T.SCALE v.now }
+{
+    Step::Val(T::of_span(val!(scale::span(v, T::SCALE))))
+}
+
+/// One as a value.
+fn one<T: Arith>() -> Step<T>
+    requires { T.SCALE ≤ 15 }
+    ensures { result ≡ rows.whole_row T.ops T.SCALE (pos 1) }
+{
+    decimal(&Dec { mant: 1, exp: 0 })
+}
+
+/// Schott's formula at the square `v` of the wavelength.
+fn schott<T: Arith>(g: &Glass, v: T) -> Step<T>
+    requires { T.SCALE ≤ 15 }
+    ensures { result ≡ rows.schott_rows T.ops T.SCALE g.now v }
+{
+    let r = val!(val!(one::<T>()).over(v));
+    let h4 = val!(val!(val!(decimal::<T>(&g.c5)).times(r)).plus(val!(decimal(&g.c4))));
+    let h3 = val!(val!(h4.times(r)).plus(val!(decimal(&g.c3))));
+    let h2 = val!(val!(h3.times(r)).plus(val!(decimal(&g.c2))));
+    let low = val!(val!(decimal::<T>(&g.c0)).plus(val!(val!(decimal::<T>(&g.c1)).times(v))));
+    low.plus(val!(h2.times(r)))
+}
+
+/// A term of Sellmeier's formula at the square `v` of the wavelength.
+fn resonance<T: Arith>(k: &Dec, l: &Dec, v: T) -> Step<T>
+    requires { T.SCALE ≤ 15 }
+    ensures { result ≡ rows.resonance_row T.ops T.SCALE k.now l.now v }
+{
+    val!(decimal::<T>(k)).times(val!(v.over(val!(v.minus(val!(decimal(l)))))))
+}
+
+/// Sellmeier's formula at the square `v` of the wavelength.
+fn sellmeier<T: Arith>(g: &Glass, v: T) -> Step<T>
+    requires { T.SCALE ≤ 15 }
+    ensures { result ≡ rows.sellmeier_rows T.ops T.SCALE g.now v }
+{
+    let t1 = val!(resonance(&g.c0, &g.c1, v));
+    let t2 = val!(resonance(&g.c2, &g.c3, v));
+    let t3 = val!(resonance(&g.c4, &g.c5, v));
+    val!(val!(val!(one::<T>()).plus(t1)).plus(t2)).plus(t3)
+}
+
+/// The glass's formula at the square `v` of the wavelength.
+fn formula<T: Arith>(g: &Glass, v: T) -> Step<T>
+    requires { T.SCALE ≤ 15 }
+    ensures { result ≡ rows.formula_rows T.ops T.SCALE g.now v }
+{
+    if g.formula == 1 {
+        schott(g, v)
+    } else {
+        sellmeier(g, v)
+    }
+}
+
+/// The index of a medium at a wavelength, whose span in micrometres is `wave` at T's scale. The
+/// square of the index is widened by `e` units before its root, `e` from 0 to the cap.
+#[tactic(auto, unfolding(lensmodel::specs::IndexRows::index_rows))]
+pub fn index<T: Arith>(m: &Medium, wave: Span, e: i128) -> Step<T>
+    requires scale { T.SCALE ≤ 15 }
+    requires low { pos 0 ≤ℤ e }
+    requires high { InCap e }
+    ensures { result ≡ rows.index_rows T.ops T.SCALE m.now wave e }
+{
+    match m {
+        Medium::Air => one(),
+        Medium::Of(g) => {
+            let v = val!(T::of_span(wave).square());
+            val!(val!(formula(g, v)).widen(e)).root()
+        }
+    }
+}
