@@ -1,4 +1,5 @@
 pub mod Decimal
+pub mod DecimalText
 pub mod Ends
 pub mod Frac
 pub mod FracLaws
@@ -12,4 +13,6 @@ pub mod Ring
 pub mod RingLaws
 pub mod Root
 pub mod Rounding
+pub mod Scaled
 pub mod Steps
+pub mod Word
