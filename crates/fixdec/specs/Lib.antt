@@ -1,4 +1,5 @@
 pub mod Decimal
+pub mod DecimalText
 pub mod Ends
 pub mod Frac
 pub mod FracLaws
@@ -14,3 +15,4 @@ pub mod Root
 pub mod Rounding
 pub mod Scaled
 pub mod Steps
+pub mod Word

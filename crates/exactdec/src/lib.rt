@@ -1,0 +1,8 @@
+//! Exact decimals: read from words, brought to a scale, shifted and printed; the zone of a
+//! semi-diameter.
+#![tactic(auto)]
+
+pub mod print;
+pub mod read;
+pub mod scale;
+pub mod zone;

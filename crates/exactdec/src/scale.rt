@@ -1,0 +1,66 @@
+//! Decimals at a scale, and times a power of ten.
+
+ghost use Rattle.std.specs.Prelude.{◌≡◌, ℕ, ℤ, pos, ◌≤◌, ◌≤ℤ◌, neg_ℤ};
+ghost use Rattle.fixdec.specs.Decimal.{value, ten_power};
+ghost use Rattle.fixdec.specs.Frac.{◌≈◌, ◌*Q◌};
+ghost use Rattle.fixdec.specs.Member.{IsMember};
+ghost use Rattle.fixdec.specs.Scaled.{dec_span, dec_shifted};
+ghost use Rattle.fixdec.specs.Steps.{OnVal};
+ghost use Rattle.fixdec.specs.Word.{IsReadable};
+
+use fixdec::dec::Dec;
+use fixdec::div::{ceil_div, floor_div, pow10};
+use fixdec::span::{CAP, Span};
+use fixdec::step::{Step, Why};
+
+/// The value at a scale of at most 15, rounded down and up; `Lost(Range)` where one of the two is
+/// past `CAP`.
+pub fn span(v: &Dec, scale: u32) -> Step<Span>
+    requires { scale ≤ 15 }
+    ensures value { result ≡ dec_span scale v.now }
+    ensures member { OnVal result (λ s. IsMember scale s (value v.now)) }
+{
+    ends(v.mant, v.exp + scale as i32)
+}
+
+/// The decimal times `10^k`, with `k` from -48 to 48. Its exponent is one that is read, from -60
+/// to 30.
+pub fn shifted(v: &Dec, k: i32) -> Dec
+    requires exponent { IsReadable v.now.exp }
+    requires low { neg_ℤ (pos 48) ≤ℤ k }
+    requires high { k ≤ℤ pos 48 }
+    ensures value { result ≡ dec_shifted v.now k }
+    ensures exact { value result ≈ value v.now *Q ten_power k }
+{
+    Dec {
+        mant: v.mant,
+        exp: if v.mant == 0 { 0 } else { v.exp + k },
+    }
+}
+
+pub(crate) fn ends(mant: i128, k: i32) -> Step<Span> {
+    if k >= 0 {
+        return product(mant, k as u32);
+    }
+    let unit = pow10(k.unsigned_abs().min(38));
+    capped(floor_div(mant, unit), ceil_div(mant, unit))
+}
+
+fn product(mant: i128, k: u32) -> Step<Span> {
+    if mant == 0 {
+        return capped(0, 0);
+    }
+    if k > 18 || mant.unsigned_abs() > CAP as u128 {
+        return Step::Lost(Why::Range);
+    }
+    let v = mant * pow10(k);
+    capped(v, v)
+}
+
+fn capped(lo: i128, hi: i128) -> Step<Span> {
+    if lo.unsigned_abs() <= CAP as u128 && hi.unsigned_abs() <= CAP as u128 {
+        Step::Val(Span { lo, hi })
+    } else {
+        Step::Lost(Why::Range)
+    }
+}
