@@ -1,7 +1,7 @@
 //! The zone of a semi-diameter, and the power of ten that it is brought to.
 
 ghost use Rattle.std.specs.Prelude.{◌≡◌, ℕ, ℤ, pos, ◌≤ℤ◌, ◌<ℤ◌, neg_ℤ};
-ghost use Rattle.exactdec.specs.Zone.{zone_span, norm, IsNorm};
+ghost use Rattle.fixdec.specs.Zone.{zone_span, norm, IsNorm};
 
 use crate::scale::ends;
 use fixdec::dec::Dec;

@@ -16,3 +16,4 @@ pub mod Rounding
 pub mod Scaled
 pub mod Steps
 pub mod Word
+pub mod Zone

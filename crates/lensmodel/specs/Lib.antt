@@ -1,3 +1,11 @@
+pub mod Bending
+pub mod Chain
+pub mod Chains
+pub mod Claims
+pub mod Crossing
 pub mod Dispersion
 pub mod IndexRows
+pub mod Media
 pub mod Residual
+pub mod Start
+pub mod Values
