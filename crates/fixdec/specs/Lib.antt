@@ -4,6 +4,8 @@ pub mod Ends
 pub mod Frac
 pub mod FracLaws
 pub mod IntLaws
+pub mod Interval
+pub mod IntervalOperations
 pub mod Ints
 pub mod Linear
 pub mod Member

@@ -3,22 +3,13 @@ use Rattle.std.specs.Prelude.{ℕ, ℤ, pos, nat_eq, if◌then◌else◌}
 use Rattle.fixdec.specs.Decimal.{Decimal}
 use Rattle.fixdec.specs.Ends.{Ends}
 use Rattle.fixdec.specs.Operations.{Operations}
-use Rattle.fixdec.specs.Scaled.{dec_span}
 use Rattle.fixdec.specs.Steps.{◌>>=◌}
 use Rattle.fixdec.specs.declared.step.Step.{Step}
 use Rattle.fixdec.specs.declared.step.Step.TheVariants.{Val, Empty, Lost}
+use Rattle.lensmodel.specs.Constants.{decimal_row, whole_row}
 use Rattle.lensmodel.specs.declared.glass.Glass.{Glass}
 use Rattle.lensmodel.specs.declared.glass.Medium.{Medium}
 use Rattle.lensmodel.specs.declared.glass.Medium.TheVariants.{Air, Of}
-
--- a decimal stands for the value of its span at the scale
-abbrev pub decimal_row : {A : Type 0} → Operations A → ℕ → Decimal → Step A
-decimal_row o scale d = do
-  Val (o.of_span (← dec_span scale d))
-
--- a whole number stands for the value of its span at the scale
-abbrev pub whole_row : {A : Type 0} → Operations A → ℕ → ℤ → Step A
-whole_row o scale n = decimal_row o scale (record { mant = n; exp = pos 0 })
 
 -- Schott: r = 1/v, h4 = (a5*r) + a4, h3 = (h4*r) + a3, h2 = (h3*r) + a2, f = (a0 + (a1*v)) + (h2*r)
 abbrev pub schott_rows : {A : Type 0} → Operations A → ℕ → Glass → A → Step A

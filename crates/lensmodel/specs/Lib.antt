@@ -2,10 +2,16 @@ pub mod Bending
 pub mod Chain
 pub mod Chains
 pub mod Claims
+pub mod Constants
 pub mod Crossing
+pub mod CrossingRows
 pub mod Dispersion
 pub mod IndexRows
 pub mod Media
+pub mod Preparation
 pub mod Residual
+pub mod SagRows
+pub mod SlopeRounds
 pub mod Start
+pub mod StartRows
 pub mod Values

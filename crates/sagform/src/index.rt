@@ -2,6 +2,7 @@
 
 ghost use Rattle.std.specs.Prelude.{◌≡◌, ℕ, ℤ, pos, ◌≤◌, ◌≤ℤ◌};
 ghost use Rattle.fixdec.specs.Ends.{Ends, InCap};
+ghost use Rattle.lensmodel.specs.Constants as constants;
 ghost use Rattle.lensmodel.specs.IndexRows as rows;
 
 use enclose::arith::Arith;
@@ -25,7 +26,7 @@ macro_rules! val {
 /// A decimal as a value.
 fn decimal<T: Arith>(v: &Dec) -> Step<T>
     requires { T.SCALE ≤ 15 }
-    ensures { result ≡ rows.decimal_row T.ops T.SCALE v.now }
+    ensures { result ≡ constants.decimal_row T.ops T.SCALE v.now }
 {
     Step::Val(T::of_span(val!(scale::span(v, T::SCALE))))
 }
@@ -33,7 +34,7 @@ fn decimal<T: Arith>(v: &Dec) -> Step<T>
 /// One as a value.
 fn one<T: Arith>() -> Step<T>
     requires { T.SCALE ≤ 15 }
-    ensures { result ≡ rows.whole_row T.ops T.SCALE (pos 1) }
+    ensures { result ≡ constants.whole_row T.ops T.SCALE (pos 1) }
 {
     decimal(&Dec { mant: 1, exp: 0 })
 }
