@@ -1,5 +1,5 @@
 -- What a row claims of every chain.
-use Rattle.std.specs.Prelude.{ℕ, zero, suc, ◌≡◌, ◌<◌, ◌≤◌, slice_get, Option, Some, None}
+use Rattle.std.specs.Prelude.{ℕ, suc, ◌≡◌, slice_get, Some}
 use Rattle.fixdec.specs.Member.{IsMember}
 use Rattle.lensmodel.specs.Chain.{Chain}
 use Rattle.lensmodel.specs.Chains.{IsChainTo, IsChainPast, IsWhole, Clears, ClearsAll}

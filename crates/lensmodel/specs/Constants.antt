@@ -5,7 +5,7 @@ use Rattle.fixdec.specs.Operations.{Operations}
 use Rattle.fixdec.specs.Scaled.{dec_span}
 use Rattle.fixdec.specs.Steps.{◌>>=◌}
 use Rattle.fixdec.specs.declared.step.Step.{Step}
-use Rattle.fixdec.specs.declared.step.Step.TheVariants.{Val, Empty, Lost}
+use Rattle.fixdec.specs.declared.step.Step.TheVariants.{Val}
 
 -- a decimal stands for the value of its span at the scale
 abbrev pub decimal_row : {A : Type 0} → Operations A → ℕ → Decimal → Step A

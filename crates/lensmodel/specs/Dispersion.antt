@@ -1,5 +1,5 @@
 -- The refractive index of a glass at a wavelength, by its catalogue's dispersion formula.
-use Rattle.std.specs.Prelude.{ℕ, ◌≡◌, pos}
+use Rattle.std.specs.Prelude.{◌≡◌, pos}
 use Rattle.fixdec.specs.Decimal.{Decimal, value}
 use Rattle.fixdec.specs.Frac.{Frac, ◌≈◌, ◌<Q◌, ◌+Q◌, ◌*Q◌, ◌-Q◌, whole}
 use Rattle.lensmodel.specs.Residual.{IsWithin}

@@ -1,4 +1,5 @@
 pub mod Bending
+pub mod BendingRows
 pub mod Chain
 pub mod Chains
 pub mod Claims
@@ -6,8 +7,10 @@ pub mod Constants
 pub mod Crossing
 pub mod CrossingRows
 pub mod Dispersion
+pub mod HitRows
 pub mod IndexRows
 pub mod Media
+pub mod Outcome
 pub mod Preparation
 pub mod Residual
 pub mod SagRows

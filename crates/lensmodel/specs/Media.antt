@@ -1,8 +1,6 @@
 -- The media between surfaces.
-use Rattle.std.specs.Prelude.{ℕ, zero, suc, ◌+◌, ◌-◌, Bool, true, false, ◌&&◌, nat_eq, nat_le, List, [], ◌∷◌, slice_index_or, Option, Some, None, not, if◌then◌else◌}
-use Rattle.fixdec.specs.Frac.{Frac, ◌+Q◌}
-use Rattle.fixdec.specs.Member.{Symbols}
-use Rattle.lensmodel.specs.Values.{owner, reflects, deviation, stands_on, tolerances}
+use Rattle.std.specs.Prelude.{ℕ, suc, ◌-◌, Bool, true, false, ◌&&◌, nat_eq, nat_le, List, [], ◌∷◌, slice_index_or, not, if◌then◌else◌}
+use Rattle.lensmodel.specs.Values.{owner, reflects, stands_on, tolerances}
 use Rattle.lensmodel.specs.declared.glass.Medium.{Medium}
 use Rattle.lensmodel.specs.declared.glass.Medium.TheVariants.{Air, Of}
 use Rattle.lensmodel.specs.declared.setup.Setup.{Setup}

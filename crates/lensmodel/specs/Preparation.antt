@@ -1,13 +1,12 @@
 -- The rows of the preparation of a surface, in the order in which they are evaluated.
 use Rattle.std.specs.Prelude.{ℕ, zero, suc, ℤ, pos, negsuc, ◌*ℤ◌, Bool, List, [], ◌∷◌, Option, Some, None, nat_lt, if◌then◌else◌}
 use Rattle.fixdec.specs.Decimal.{Decimal}
-use Rattle.fixdec.specs.Ends.{Ends}
 use Rattle.fixdec.specs.Operations.{Operations}
 use Rattle.fixdec.specs.Scaled.{dec_span, dec_shifted}
 use Rattle.fixdec.specs.Steps.{◌>>=◌}
 use Rattle.fixdec.specs.Zone.{zone, norm}
 use Rattle.fixdec.specs.declared.step.Step.{Step}
-use Rattle.fixdec.specs.declared.step.Step.TheVariants.{Val, Empty, Lost}
+use Rattle.fixdec.specs.declared.step.Step.TheVariants.{Val}
 use Rattle.lensmodel.specs.Constants.{decimal_row, whole_row}
 use Rattle.lensmodel.specs.IndexRows.{index_rows}
 use Rattle.lensmodel.specs.Media.{medium_at}

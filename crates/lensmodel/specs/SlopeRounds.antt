@@ -9,7 +9,6 @@ use Rattle.fixdec.specs.Rounding.{floor}
 use Rattle.fixdec.specs.Steps.{◌>>=◌}
 use Rattle.fixdec.specs.declared.step.Step.{Step}
 use Rattle.fixdec.specs.declared.step.Step.TheVariants.{Val, Empty, Lost}
-use Rattle.fixdec.specs.declared.step.Why.{Why}
 use Rattle.fixdec.specs.declared.step.Why.TheVariants.{Root}
 use Rattle.lensmodel.specs.Constants.{whole_row}
 use Rattle.lensmodel.specs.Preparation.{Prepared}

@@ -1,5 +1,5 @@
 -- Where a ray starts: in the vertex plane of surface 1, by its slopes.
-use Rattle.std.specs.Prelude.{ℕ, pos, ◌-◌}
+use Rattle.std.specs.Prelude.{pos, ◌-◌}
 use Rattle.fixdec.specs.Decimal.{value}
 use Rattle.fixdec.specs.Frac.{Frac, ◌≈◌, ◌<Q◌, ◌+Q◌, ◌-Q◌, ◌*Q◌, whole}
 use Rattle.lensmodel.specs.Chain.{Chain}
