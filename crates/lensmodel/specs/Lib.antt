@@ -7,11 +7,13 @@ pub mod Constants
 pub mod Crossing
 pub mod CrossingRows
 pub mod Dispersion
+pub mod FaultText
 pub mod HitRows
 pub mod IndexRows
 pub mod Media
 pub mod Outcome
 pub mod Preparation
+pub mod Printed
 pub mod Residual
 pub mod SagRows
 pub mod SlopeRounds

@@ -20,3 +20,20 @@ pub enum Status {
     /// There was no memory: 8.
     Memory,
 }
+
+/// Which file of a command a fault line speaks of.
+#[derive(Clone, Copy, Debug, PartialEq, Eq)]
+pub enum FileKind {
+    /// The lens.
+    Zmx,
+    /// The glass catalogue.
+    Agf,
+    /// The job.
+    Job,
+    /// The tolerance box.
+    Tol,
+    /// The certificate.
+    Cert,
+    /// The script of edits.
+    Script,
+}
