@@ -19,4 +19,5 @@ pub mod SagRows
 pub mod SlopeRounds
 pub mod Start
 pub mod StartRows
+pub mod TextLines
 pub mod Values
