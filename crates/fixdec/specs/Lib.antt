@@ -1,9 +1,12 @@
 pub mod Decimal
 pub mod Ends
+pub mod Form
+pub mod FormMember
 pub mod Frac
 pub mod FracLaws
 pub mod IntLaws
 pub mod Ints
+pub mod Interval
 pub mod Inverse
 pub mod Linear
 pub mod Member
@@ -21,3 +24,4 @@ pub mod Roots
 pub mod Rounding
 pub mod RoundingLaws
 pub mod Steps
+pub mod Within
