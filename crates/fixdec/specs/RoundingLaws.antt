@@ -1,5 +1,5 @@
 -- Laws of rounded quotients: what a floor and a ceiling leave, and that they are the exact floor and ceiling.
-use Rattle.std.proofs.Common.{◌≡◌, ℕ, zero, suc, refl, [], ◌∷◌, arith}
+use Rattle.std.proofs.Common.{◌≡◌, ℕ, zero, suc, refl, sym, subst, [], ◌∷◌, arith}
 use Rattle.std.proofs.lemmas.Int.{ints, by_lt_z}
 use Rattle.std.specs.Prelude.{ℤ, pos, negsuc, ◌+ℤ◌, ◌*ℤ◌, ◌≤ℤ◌, ◌<ℤ◌}
 use lib.IntN.{neg_ℤ}
@@ -137,3 +137,10 @@ floor_under m d x h l =
 pub ceil_over : (m d : ℤ) (x : Frac) → pos 0 <ℤ d → x *Q whole d ≤Q whole m → x ≤Q whole (ceil m d)
 ceil_over m d x h l =
     le_cancel (whole d) (lt_whole h) (le_trans l (le_same_right (le_whole (ceil_pos m d h)) (whole_mul (ceil m d) d)))
+
+-- what is equal to the rounded quotient is the exact one
+pub floor_at : (n d z : ℤ) → (d ≡ pos 0 → ⊥) → z ≡ floor n d → IsFloor (ratio n d) z
+floor_at n d z h e = subst (λ y. IsFloor (ratio n d) y) (sym e) (floor_is n d h)
+
+pub ceil_at : (n d z : ℤ) → (d ≡ pos 0 → ⊥) → z ≡ ceil n d → IsCeil (ratio n d) z
+ceil_at n d z h e = subst (λ y. IsCeil (ratio n d) y) (sym e) (ceil_is n d h)
