@@ -1,13 +1,14 @@
 //! Rounded quotients and powers of ten.
 
 ghost use Rattle.std.specs.Prelude.{◌≡◌, ◌≢◌, ℕ, ℤ, pos, negsuc, ◌≤◌, ◌<◌, ◌^◌, ◌≤ℤ◌, unsigned_abs};
-ghost use Rattle.fixdec.specs.Rounding.{floor, ceil};
+ghost use Rattle.fixdec.specs.Rounding.{floor, ceil, ratio, IsFloor, IsCeil};
 
 /// The quotient `a / b`, rounded down.
 pub fn floor_div(a: i128, b: i128) -> i128
     requires nonzero { b ≢ pos 0 }
     requires bound { unsigned_abs a ≤ 10 ^ 38 }
-    ensures { result ≡ floor a b }
+    ensures value { result ≡ floor a b }
+    ensures exact { IsFloor (ratio a b) result }
 {
     if 0 < b {
         a.div_euclid(b)
@@ -20,7 +21,8 @@ pub fn floor_div(a: i128, b: i128) -> i128
 pub fn ceil_div(a: i128, b: i128) -> i128
     requires nonzero { b ≢ pos 0 }
     requires bound { unsigned_abs a ≤ 10 ^ 38 }
-    ensures { result ≡ ceil a b }
+    ensures value { result ≡ ceil a b }
+    ensures exact { IsCeil (ratio a b) result }
 {
     -floor_div(-a, b)
 }

@@ -3,6 +3,7 @@
 
 pub mod dec;
 pub mod div;
+pub mod fix;
 pub mod root;
 pub mod span;
 pub mod step;
