@@ -3,6 +3,7 @@ pub mod Ends
 pub mod Frac
 pub mod FracLaws
 pub mod IntLaws
+pub mod Interval
 pub mod Ints
 pub mod Linear
 pub mod Member
