@@ -2,3 +2,4 @@
 #![tactic(auto)]
 
 pub mod arith;
+pub mod spans;

@@ -1,0 +1,5 @@
+pub mod Clips
+pub mod EndsLaws
+pub mod Quotients
+pub mod Shifts
+pub mod Sizes
