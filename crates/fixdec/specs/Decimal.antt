@@ -1,5 +1,5 @@
 -- Decimals: a mantissa and a power of ten.
-use Rattle.std.specs.Prelude.{ℕ, ℤ, pos, negsuc, suc, ◌≡◌, ◌<◌, ◌^◌, ◌≤ℤ◌, ◌*ℤ◌, ◌*◌, ◌-◌, unsigned_abs}
+use Rattle.std.specs.Prelude.{ℕ, ℤ, pos, negsuc, suc, ◌≡◌, ◌<◌, ◌^◌, ◌≤ℤ◌, ◌-◌, unsigned_abs}
 use Rattle.fixdec.specs.Frac.{Frac, whole, ◌*Q◌}
 
 -- mant times ten to the power exp

@@ -1,5 +1,5 @@
 -- The ends of an interval of raw numbers, and the cap on their size.
-use Rattle.std.specs.Prelude.{ℤ, ◌≤◌, ◌^◌, unsigned_abs}
+use Rattle.std.specs.Prelude.{ℤ, ◌≤◌, unsigned_abs}
 
 -- a least and a greatest raw number
 pub record Ends : Type 0 where

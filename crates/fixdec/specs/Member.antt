@@ -1,7 +1,7 @@
 -- Membership: which fractions a value stands for.
 use Rattle.std.specs.Prelude.{ℕ, ℤ, pos, negsuc, suc, ◌^◌}
 use Rattle.fixdec.specs.Ends.{Ends}
-use Rattle.fixdec.specs.Frac.{Frac, ◌≈◌, ◌≤Q◌, ◌+Q◌, ◌*Q◌, ◌-Q◌, whole}
+use Rattle.fixdec.specs.Frac.{Frac, ◌≈◌, ◌≤Q◌, ◌*Q◌, ◌-Q◌, whole}
 
 -- the number of units in one at a scale, as a fraction
 abbrev pub units : ℕ → Frac

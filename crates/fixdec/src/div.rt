@@ -9,7 +9,11 @@ pub fn floor_div(a: i128, b: i128) -> i128
     requires bound { unsigned_abs a ≤ 10 ^ 38 }
     ensures { result ≡ floor a b }
 {
-    if 0 < b { a.div_euclid(b) } else { -(-a).div_euclid(b) }
+    if 0 < b {
+        a.div_euclid(b)
+    } else {
+        -(-a).div_euclid(b)
+    }
 }
 
 /// The quotient `a / b`, rounded up.
