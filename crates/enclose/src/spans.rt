@@ -106,14 +106,14 @@ fn holds_zero(a: Span) -> bool
 }
 
 fn least_size(a: Span) -> i128
-    ensures value { result ≡ spec.least_size a }
+    ensures value { result ≡ pos (spec.least_size a) }
     ensures bound { InCap result }
 {
     if holds_zero(a) { 0 } else { a.lo.abs().min(a.hi.abs()) }
 }
 
 fn greatest_size(a: Span) -> i128
-    ensures value { result ≡ spec.greatest_size a }
+    ensures value { result ≡ pos (spec.greatest_size a) }
     ensures bound { InCap result }
 {
     a.lo.abs().max(a.hi.abs())

@@ -1,7 +1,7 @@
 -- Interval arithmetic: what each operation on intervals answers, in raw whole numbers. At a scale the raw number v
 -- stands for v / 10^scale. An answer is Lost Range exactly where an end of the stated result passes the cap in size,
 -- unless another answer is stated first.
-use Rattle.std.specs.Prelude.{ℕ, suc, ◌*◌, ◌^◌, Bool, ◌&&◌, if◌then◌else◌, ℤ, pos, negsuc, ◌+ℤ◌, ◌-ℤ◌, ◌*ℤ◌, int_le, int_lt, nat_le, unsigned_abs}
+use Rattle.std.specs.Prelude.{ℕ, suc, ◌*◌, ◌^◌, min, max, Bool, ◌&&◌, if◌then◌else◌, ℤ, pos, negsuc, ◌+ℤ◌, ◌-ℤ◌, ◌*ℤ◌, int_le, int_lt, nat_le, unsigned_abs}
 use Rattle.std.specs.Int.{int_min, int_max}
 use Rattle.fixdec.specs.Ends.{Ends}
 use Rattle.fixdec.specs.Frac.{Frac}
@@ -53,22 +53,18 @@ iv_times scale a b = ends (floor (least_product a b) (unit scale)) (ceil (greate
 abbrev pub holds_zero : Ends → Bool
 holds_zero a = int_le a.lo (pos 0) && int_le (pos 0) a.hi
 
--- the size of a number
-abbrev pub size : ℤ → ℤ
-size z = pos (unsigned_abs z)
-
 -- the least size in an interval: 0 where it holds 0, else the smaller size of its ends
-abbrev pub least_size : Ends → ℤ
-least_size a = if holds_zero a then pos 0 else int_min (size a.lo) (size a.hi)
+abbrev pub least_size : Ends → ℕ
+least_size a = if holds_zero a then 0 else min (unsigned_abs a.lo) (unsigned_abs a.hi)
 
 -- the greatest size in an interval: the larger size of its ends
-abbrev pub greatest_size : Ends → ℤ
-greatest_size a = int_max (size a.lo) (size a.hi)
+abbrev pub greatest_size : Ends → ℕ
+greatest_size a = max (unsigned_abs a.lo) (unsigned_abs a.hi)
 
 -- the square: the squares of the least and the greatest size, over the unit
 unfoldable pub iv_square : ℕ → Ends → Step Ends
 iv_square scale a =
-    ends (floor (least_size a *ℤ least_size a) (unit scale)) (ceil (greatest_size a *ℤ greatest_size a) (unit scale))
+    ends (floor (pos (least_size a * least_size a)) (unit scale)) (ceil (pos (greatest_size a * greatest_size a)) (unit scale))
 
 -- the floor of the least and the ceiling of the greatest of the four quotients `end U / end`: the least of the floors,
 -- and the greatest of the ceilings
@@ -116,8 +112,8 @@ iv_clip a s =
 
 -- the sizes of the numbers of an interval
 unfoldable pub iv_size : Ends → Ends
-iv_size a = record { lo = least_size a; hi = greatest_size a }
+iv_size a = record { lo = pos (least_size a); hi = pos (greatest_size a) }
 
 -- the size of a fraction
-abbrev pub size_Q : Frac → Frac
-size_Q x = record { num = size x.num; less = x.less }
+abbrev pub size : Frac → Frac
+size x = record { num = pos (unsigned_abs x.num); less = x.less }
