@@ -4,7 +4,7 @@ use Rattle.std.specs.Int.{w128, cast_signed, cast_unsigned}
 use Rattle.std.proofs.lemmas.Int.{ints}
 use Rattle.fixdec.specs.Interval.{unit, least_size, greatest_size, iv_square}
 use Rattle.fixdec.specs.Rounding.{floor, ceil}
-use Rattle.enclose.specs.SizeLaws.{least_square-le}
+use Rattle.enclose.specs.EndLaws.{least_square-le}
 use Rattle.enclose.proofs.EndsLaws.{ends_at}
 use Rattle.enclose.proofs.Sizes.{product_at}
 use Rattle.enclose.proofs.spans.iv_square.Goals as goal
