@@ -2,7 +2,10 @@
 
 ghost use Rattle.std.specs.Prelude.{◌≡◌, false, ℕ, ℤ, pos, negsuc, ◌≤◌, ◌<◌, ◌≤ℤ◌, ◌+ℤ◌, ◌*ℤ◌, ◌*◌, ◌^◌, unsigned_abs};
 ghost use Rattle.fixdec.specs.Ends.{Ends, InCap};
+ghost use Rattle.fixdec.specs.Frac.{Frac, ◌≈◌, ◌≤Q◌, ◌+Q◌, ◌-Q◌, ◌*Q◌, whole};
 ghost use Rattle.fixdec.specs.Interval as spec;
+ghost use Rattle.fixdec.specs.Member.{IsMember, IsNear, IsShifted};
+ghost use Rattle.fixdec.specs.Steps.{OnVal};
 ghost use Rattle.fixdec.specs.Rounding.{floor, ceil};
 
 use fixdec::div::{ceil_div, floor_div, pow10};
@@ -43,7 +46,9 @@ fn outward(lo: i128, hi: i128, k: u32) -> Step<Span>
 /// The sum.
 pub fn iv_plus(_scale: u32, a: Span, b: Span) -> Step<Span>
     requires { _scale ≤ 15 }
-    ensures { result ≡ spec.iv_plus a b }
+    ensures exact { result ≡ spec.iv_plus a b }
+    ensures encloses {
+        (u v : Frac) → IsMember _scale a u → IsMember _scale b v → OnVal result (λ r. IsMember _scale r (u +Q v)) }
 {
     ends(a.lo + b.lo, a.hi + b.hi)
 }
@@ -51,7 +56,9 @@ pub fn iv_plus(_scale: u32, a: Span, b: Span) -> Step<Span>
 /// The difference.
 pub fn iv_minus(_scale: u32, a: Span, b: Span) -> Step<Span>
     requires { _scale ≤ 15 }
-    ensures { result ≡ spec.iv_minus a b }
+    ensures exact { result ≡ spec.iv_minus a b }
+    ensures encloses {
+        (u v : Frac) → IsMember _scale a u → IsMember _scale b v → OnVal result (λ r. IsMember _scale r (u -Q v)) }
 {
     ends(a.lo - b.hi, a.hi - b.lo)
 }
@@ -94,7 +101,9 @@ fn greatest_product(a: Span, b: Span) -> i128
 /// The product.
 pub fn iv_times(scale: u32, a: Span, b: Span) -> Step<Span>
     requires { scale ≤ 15 }
-    ensures { result ≡ spec.iv_times scale a b }
+    ensures exact { result ≡ spec.iv_times scale a b }
+    ensures encloses {
+        (u v : Frac) → IsMember scale a u → IsMember scale b v → OnVal result (λ r. IsMember scale r (u *Q v)) }
 {
     outward(least_product(a, b), greatest_product(a, b), scale)
 }
@@ -121,7 +130,9 @@ fn greatest_size(a: Span) -> i128
 
 /// The sizes of the numbers of a span.
 pub fn iv_size(a: Span) -> Span
-    ensures { result ≡ spec.iv_size a }
+    ensures exact { result ≡ spec.iv_size a }
+    ensures encloses {
+        (scale : ℕ) (u : Frac) → IsMember scale a u → IsMember scale result (spec.size u) }
 {
     Span { lo: least_size(a), hi: greatest_size(a) }
 }
@@ -129,7 +140,9 @@ pub fn iv_size(a: Span) -> Span
 /// The square.
 pub fn iv_square(scale: u32, a: Span) -> Step<Span>
     requires { scale ≤ 15 }
-    ensures { result ≡ spec.iv_square scale a }
+    ensures exact { result ≡ spec.iv_square scale a }
+    ensures encloses {
+        (u : Frac) → IsMember scale a u → OnVal result (λ r. IsMember scale r (u *Q u)) }
 {
     let least = least_size(a);
     let greatest = greatest_size(a);
@@ -169,7 +182,10 @@ fn greatest_quotient(scale: u32, a: Span, b: Span) -> i128
 /// The quotient. Lost by `Zero` exactly where `b` holds 0.
 pub fn iv_over(scale: u32, a: Span, b: Span) -> Step<Span>
     requires { scale ≤ 15 }
-    ensures { result ≡ spec.iv_over scale a b }
+    ensures exact { result ≡ spec.iv_over scale a b }
+    ensures encloses {
+        (u v q : Frac) → IsMember scale a u → IsMember scale b v → q *Q v ≈ u
+            → OnVal result (λ r. IsMember scale r q) }
 {
     if holds_zero(b) {
         return Step::Lost(Why::Zero);
@@ -190,7 +206,10 @@ fn radicand(scale: u32, z: i128) -> u128
 /// The root that isn't negative. Empty exactly where every number of the span is below 0.
 pub fn iv_root(scale: u32, a: Span) -> Step<Span>
     requires { scale ≤ 15 }
-    ensures { result ≡ spec.iv_root scale a }
+    ensures exact { result ≡ spec.iv_root scale a }
+    ensures encloses {
+        (u : Frac) → whole (pos 0) ≤Q u → IsMember scale a (u *Q u)
+            → OnVal result (λ r. IsMember scale r u) }
 {
     if a.hi < 0 {
         return Step::Empty;
@@ -204,7 +223,10 @@ pub fn iv_root(scale: u32, a: Span) -> Step<Span>
 pub fn iv_widen(a: Span, e: i128) -> Step<Span>
     requires low { pos 0 ≤ℤ e }
     requires high { InCap e }
-    ensures { result ≡ spec.iv_widen a e }
+    ensures exact { result ≡ spec.iv_widen a e }
+    ensures encloses {
+        (scale : ℕ) (u v : Frac) → IsMember scale a u → IsNear scale e u v
+            → OnVal result (λ r. IsMember scale r v) }
 {
     ends(a.lo - e, a.hi + e)
 }
@@ -213,7 +235,10 @@ pub fn iv_widen(a: Span, e: i128) -> Step<Span>
 pub fn iv_shift(a: Span, k: i32) -> Step<Span>
     requires low { negsuc 5 ≤ℤ k }
     requires high { k ≤ℤ pos 6 }
-    ensures { result ≡ spec.iv_shift a k }
+    ensures exact { result ≡ spec.iv_shift a k }
+    ensures encloses {
+        (scale : ℕ) (u v : Frac) → IsMember scale a u → IsShifted k u v
+            → OnVal result (λ r. IsMember scale r v) }
 {
     if k < 0 {
         let power = k.unsigned_abs();
@@ -224,7 +249,10 @@ pub fn iv_shift(a: Span, k: i32) -> Step<Span>
 
 /// The numbers that `a` and `s` have in common. Empty exactly where there is none.
 pub fn iv_clip(a: Span, s: Span) -> Step<Span>
-    ensures { result ≡ spec.iv_clip a s }
+    ensures exact { result ≡ spec.iv_clip a s }
+    ensures encloses {
+        (scale : ℕ) (u : Frac) → IsMember scale a u → IsMember scale s u
+            → OnVal result (λ r. IsMember scale r u) }
 {
     let lo = a.lo.max(s.lo);
     let hi = a.hi.min(s.hi);

@@ -7,10 +7,11 @@ use Rattle.fixdec.specs.Root.{root, root_up_by}
 use Rattle.enclose.proofs.EndsLaws.{ends_at}
 use Rattle.enclose.proofs.RootsOfEnds.{ends_of_root, root_small, root_up_small, root_none, root_some}
 use Rattle.enclose.proofs.Sizes.{small_is}
+use Rattle.enclose.specs.IntervalLaws.{iv_root-encloses}
 use Rattle.enclose.proofs.spans.iv_root.Goals as goal
 
-pub returns-then-a-lt0 : goal.returns-then-a-lt0
-returns-then-a-lt0 c =
+pub returns-then-a-lt0-clause-exact : goal.returns-then-a-lt0-clause-exact
+returns-then-a-lt0-clause-exact c =
     rw (← c.a.view_is)
     (root_none c.args.scale (record { lo = c.a.inside.lo; hi = c.a.inside.hi }) (ap (λ z. int_lt z (pos 0)) (sym (small_is c.a.inside.hi c.a.invariant.2)) ∙ c.if-a-lt0.true))
 
@@ -39,8 +40,14 @@ ends-requires c =
     let l = ends_of_root c.a.inside.lo c.a.inside.hi (10 ^ c.args.scale) c.a.invariant.0 in
     rw (low c, high c) (omega (arith, ints))
 
-pub returns : goal.returns
-returns c =
+pub returns-clause-exact : goal.returns-clause-exact
+returns-clause-exact c =
     rw (← c.a.view_is)
     (ends_at _ _ c.ends.ensures (low c.before) (high c.before)
     ∙ sym (root_some c.args.scale (record { lo = c.a.inside.lo; hi = c.a.inside.hi }) (ap (λ z. int_lt z (pos 0)) (sym (small_is c.a.inside.hi c.a.invariant.2)) ∙ c.if-a-lt0.false)))
+
+pub returns-then-a-lt0-clause-encloses : goal.returns-then-a-lt0-clause-encloses
+returns-then-a-lt0-clause-encloses c = λ u n p. rw (← returns-then-a-lt0-clause-exact c) at (iv_root-encloses c.args.scale c.args.a u n p)
+
+pub returns-clause-encloses : goal.returns-clause-encloses
+returns-clause-encloses c = rw (returns-clause-exact c) (iv_root-encloses c.args.scale c.args.a)

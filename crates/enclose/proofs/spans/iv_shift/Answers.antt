@@ -6,6 +6,7 @@ use Rattle.fixdec.specs.Rounding.{floor, ceil}
 use Rattle.enclose.proofs.EndsLaws.{ends_at}
 use Rattle.enclose.proofs.Shifts.{raised_le, shift_up, shift_down}
 use Rattle.enclose.proofs.Sizes.{small_is, raised_at}
+use Rattle.enclose.specs.IntervalLaws.{iv_shift-encloses}
 use Rattle.enclose.proofs.spans.iv_shift.Goals as goal
 
 power : (c : goal.After-raised-then-k-lt0) → c.unsigned_abs-power.result ≡ unsigned_abs c.args.k
@@ -23,17 +24,23 @@ high c = raised_at c.a.inside.hi _ c.a.invariant.2 (power_le c) c.raised-then-k-
 pub ends-requires : goal.ends-requires
 ends-requires c = rw (low c, high c) (raised_le c.a.inside.lo c.a.inside.hi (10 ^ c.unsigned_abs-power.result) c.a.invariant.0)
 
-pub returns-then-k-lt0 : goal.returns-then-k-lt0
-returns-then-k-lt0 c =
+pub returns-then-k-lt0-clause-exact : goal.returns-then-k-lt0-clause-exact
+returns-then-k-lt0-clause-exact c =
     let negative : c.args.k <ℤ pos 0 = (let h = c.if-k-lt0.true in grind (arith, ints)) in
     rw (shift_up c.args.a c.args.k _ negative (power c.before), ← c.a.view_is)
     (ends_at _ _ c.ends.ensures (low c.before) (high c.before))
 
-pub returns : goal.returns
-returns c =
+pub returns-clause-exact : goal.returns-clause-exact
+returns-clause-exact c =
     let k = to_z-of_z w32 c.args.k c.ranges.k in
     let positive : pos 0 ≤ℤ c.args.k = (let h = c.if-k-lt0.false in grind (arith, ints)) in
     let lo = small_is c.a.inside.lo c.a.invariant.1 in
     let hi = small_is c.a.inside.hi c.a.invariant.2 in
     rw (shift_down c.args.a c.args.k positive, ← c.a.view_is)
     (ends_at _ _ c.outward.ensures (λ i. floor (lo i) (pos (10 ^ unsigned_abs (k i)))) (λ i. ceil (hi i) (pos (10 ^ unsigned_abs (k i)))))
+
+pub returns-then-k-lt0-clause-encloses : goal.returns-then-k-lt0-clause-encloses
+returns-then-k-lt0-clause-encloses c = rw (returns-then-k-lt0-clause-exact c) (λ scale. iv_shift-encloses scale c.args.a c.args.k)
+
+pub returns-clause-encloses : goal.returns-clause-encloses
+returns-clause-encloses c = rw (returns-clause-exact c) (λ scale. iv_shift-encloses scale c.args.a c.args.k)

@@ -7,6 +7,7 @@ use Rattle.fixdec.specs.Rounding.{floor, ceil}
 use Rattle.enclose.specs.EndLaws.{least_square-le}
 use Rattle.enclose.proofs.EndsLaws.{ends_at}
 use Rattle.enclose.proofs.Sizes.{product_at}
+use Rattle.enclose.specs.IntervalLaws.{iv_square-encloses}
 use Rattle.enclose.proofs.spans.iv_square.Goals as goal
 
 low : (c : goal.After-product-2) → cast_signed w128 (cast_unsigned w128 c.product.result) ≡ pos (least_size c.args.a * least_size c.args.a)
@@ -22,8 +23,11 @@ high c =
 pub outward-requires-clause-order : goal.outward-requires-clause-order
 outward-requires-clause-order c = let l = least_square-le c.args.a in rw (low c, high c) (omega (arith, ints))
 
-pub returns : goal.returns
+pub returns-clause-exact : goal.returns-clause-exact
 unfolding iv_square
-returns c =
+returns-clause-exact c =
     let u = unit c.args.scale in
     ends_at _ _ c.outward.ensures (ap (λ z. floor z u) (low c.before)) (ap (λ z. ceil z u) (high c.before))
+
+pub returns-clause-encloses : goal.returns-clause-encloses
+returns-clause-encloses c = rw (returns-clause-exact c) (iv_square-encloses c.args.scale c.args.a)
