@@ -4,11 +4,13 @@ pub mod Ends
 pub mod Frac
 pub mod FracLaws
 pub mod IntLaws
+pub mod Interval
 pub mod Ints
 pub mod Linear
 pub mod Member
 pub mod Operations
 pub mod Order
+pub mod PowerLaws
 pub mod Ring
 pub mod RingLaws
 pub mod Root
