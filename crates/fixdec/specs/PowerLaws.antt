@@ -1,9 +1,12 @@
 -- Powers of ten as fractions, and the values of decimals.
-use Rattle.std.proofs.Common.{◌≡◌, ℕ, suc, ◌+◌, ◌-◌, ◌*◌, ◌^◌, ◌≤◌, refl, sym, ◌∙◌, ap, List, [], ◌∷◌, arith}
+use Rattle.std.proofs.Common.{◌≡◌, ℕ, suc, ◌+◌, ◌-◌, ◌*◌, ◌^◌, ◌≤◌, refl, sym, ◌∙◌, ap, List, [], ◌∷◌, arith, Bool, true, false, ◌⊎◌, inl, inr}
 use Rattle.std.proofs.Math.Nat.{one-le-pow}
 use Rattle.std.proofs.lemmas.Int.{ints}
 use Rattle.std.proofs.lemmas.Nat.{pow-add}
-use Rattle.std.specs.Prelude.{ℤ, pos, negsuc, ◌+ℤ◌, ◌*ℤ◌, ◌≤ℤ◌}
+use Rattle.std.specs.Bool.{Decides}
+use Rattle.std.specs.Cmp.{signed_Decides}
+use Rattle.std.specs.Ordering.{int_eq}
+use Rattle.std.specs.Prelude.{ℤ, pos, negsuc, ◌+ℤ◌, ◌*ℤ◌, ◌≤ℤ◌, ◌&&◌, if◌then◌else◌}
 use lib.IntN.{neg_ℤ}
 use borrow.Author.Differences.{up, down}
 use Rattle.fixdec.specs.Decimal.{Decimal, tenth_power, ten_power, value}
@@ -11,12 +14,16 @@ use Rattle.fixdec.specs.Ends.{Ends}
 use Rattle.fixdec.specs.Frac.{Frac, den, whole, neg_Q, ◌≈◌, ◌≤Q◌, ◌*Q◌, ◌-Q◌}
 use Rattle.fixdec.specs.FracLaws.{Is, is, is_mul, is_whole, same_if, cancel, ≈_refl, ≈_sym, ≈_trans}
 use Rattle.fixdec.specs.IntLaws.{ringℤ}
+use Rattle.fixdec.specs.Interval.{ends, fits_cap}
 use Rattle.fixdec.specs.Linear.{linear, linear_le, by_ring, fact, name, order, no_fact, reads}
 use Rattle.fixdec.specs.Member.{IsMember, units}
 use Rattle.fixdec.specs.Order.{along, le_of_same, le_trans}
 use Rattle.fixdec.specs.Ring.{var, con, ◌⊗◌}
 use Rattle.fixdec.specs.Rounding.{floor, ceil, floor_below, ceil_above}
-use Rattle.fixdec.specs.Scaled.{floor_times, ceil_times, dec_floor, dec_ceil}
+use Rattle.fixdec.specs.Scaled.{floor_times, ceil_times, dec_floor, dec_ceil, dec_span, dec_shifted}
+use Rattle.fixdec.specs.Steps.{OnVal}
+use Rattle.fixdec.specs.declared.step.Step.TheVariants.{Val, Lost}
+use Rattle.fixdec.specs.declared.step.Why.TheVariants.{Range}
 
 pub le_if : {x y : Frac} {n d m e : ℤ} → Is x n d → Is y m e → (n *ℤ e) ≤ℤ (m *ℤ d) → x ≤Q y
 le_if p q h = record { cross = along (sym (λ i. p.num i *ℤ q.den i)) (sym (λ i. q.num i *ℤ p.den i)) h }
@@ -119,3 +126,36 @@ value_between scale d =
       low = le_trans (floor_times_below d.mant (d.exp +ℤ pos scale)) (le_of_same (≈_sym at_scale));
       high = le_trans (le_of_same at_scale) (ceil_times_above d.mant (d.exp +ℤ pos scale));
     }
+
+false_from_not : (b : Bool) → (b ≡ true → ⊥) → b ≡ false
+false_from_not true h = absurd (h refl)
+false_from_not false h = refl
+
+Decides-cases : {P : Type 0} (b : Bool) → Decides b P → P ⊎ (P → ⊥)
+Decides-cases true d = inl (d.0 refl)
+Decides-cases false d = inr (λ p. let e : false ≡ true = d.1 p in cc)
+
+-- a fact of both ends holds of the interval, where it is kept
+pub OnVal-ends : (lo hi : ℤ) (P : Ends → Type 0) → P (record { lo = lo; hi = hi }) → OnVal (ends lo hi) P
+unfolding ends
+OnVal-ends lo hi P h = elim (fits_cap lo && fits_cap hi) as (λ b. OnVal (if b then Val (record { lo = lo; hi = hi }) else Lost Range) P) [ true ↦ h | false ↦ tt ]
+
+-- the value of a decimal is a member of its span
+pub dec_span_member : (scale : ℕ) (d : Decimal) → OnVal (dec_span scale d) (λ s. IsMember scale s (value d))
+unfolding dec_span
+dec_span_member scale d = OnVal-ends (dec_floor scale d) (dec_ceil scale d) (λ s. IsMember scale s (value d)) (value_between scale d)
+
+pub dec_shifted-zero : (d : Decimal) (k : ℤ) → d.mant ≡ pos 0 → dec_shifted d k ≡ record { mant = d.mant; exp = pos 0 }
+unfolding dec_shifted
+dec_shifted-zero d k h = rw ((signed_Decides d.mant (pos 0)).1 h)
+
+pub dec_shifted-some : (d : Decimal) (k : ℤ) → (d.mant ≡ pos 0 → ⊥) → dec_shifted d k ≡ record { mant = d.mant; exp = d.exp +ℤ k }
+unfolding dec_shifted
+dec_shifted-some d k h = rw (false_from_not (int_eq d.mant (pos 0)) (λ e. h ((signed_Decides d.mant (pos 0)).0 e)))
+
+-- the value of a decimal that is shifted
+pub value-shifted : (d : Decimal) (k : ℤ) → value (dec_shifted d k) ≈ value d *Q ten_power k
+value-shifted d k = elim (Decides-cases (int_eq d.mant (pos 0)) (signed_Decides d.mant (pos 0))) [
+    inl h ↦ rw (dec_shifted-zero d k h) (≈_trans (value-zero d.mant (pos 0) (d.exp +ℤ k) h) (value-times d.mant d.exp k))
+    | inr h ↦ rw (dec_shifted-some d k h) (value-times d.mant d.exp k)
+  ]
