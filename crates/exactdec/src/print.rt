@@ -1,9 +1,9 @@
 //! Texts of raw numbers and decimals.
 
 ghost use Rattle.std.specs.Prelude.{◌≡◌, ℕ, ℤ, pos, ◌+◌, ◌≤◌, ◌<◌, ◌^◌, [], ◌∷◌, ◌++◌, length};
-ghost use Rattle.std.specs.Fmt.{decimal};
+ghost use Rattle.std.specs.Fmt.{decimal, signed_decimal};
 ghost use Rattle.arrayvec.specs.ArrayString.{array_string_len};
-ghost use Rattle.fixdec.specs.DecimalText.{fix_text, dec_text, last_digits};
+ghost use Rattle.fixdec.specs.DecimalText.{fix_text, dec_text, last_digits, minus_sign};
 
 use arrayvec::ArrayString;
 use fixdec::dec::Dec;
@@ -16,12 +16,10 @@ pub fn print_fix(raw: i128, scale: u32, out: &mut ArrayString<64>)
     requires high { scale ≤ 15 }
     ensures { out.new.bytes ≡ fix_text scale raw }
 {
-    if raw < 0 {
-        out.push('-');
-    }
+    push_minus(raw, out);
     let size = raw.unsigned_abs();
     push_number(size / 10u128.pow(scale), out);
-    out.push('.');
+    push_byte(b'.', out);
     push_last_digits(size, scale, out);
 }
 
@@ -32,30 +30,58 @@ pub fn print_dec(v: &Dec, out: &mut ArrayString<64>)
 {
     push_signed(v.mant, out);
     if v.exp != 0 {
-        out.push('e');
+        push_byte(b'e', out);
         push_signed(v.exp as i128, out);
     }
 }
 
-fn push_signed(n: i128, out: &mut ArrayString<64>) {
-    if n < 0 {
-        out.push('-');
-    }
+fn push_signed(n: i128, out: &mut ArrayString<64>)
+    requires { array_string_len out.old + length (signed_decimal n) ≤ 64 }
+    ensures { out.new.bytes ≡ out.old.bytes ++ signed_decimal n }
+{
+    push_minus(n, out);
     push_number(n.unsigned_abs(), out);
 }
 
-fn push_digit(n: u8, out: &mut ArrayString<64>) {
-    out.push(char::from(b'0' + n));
+fn push_minus(n: i128, out: &mut ArrayString<64>)
+    requires { array_string_len out.old + length (minus_sign n) ≤ 64 }
+    ensures { out.new.bytes ≡ out.old.bytes ++ minus_sign n }
+{
+    if n < 0 {
+        push_byte(b'-', out);
+    }
 }
 
-fn push_number(n: u128, out: &mut ArrayString<64>) {
+fn push_digit(n: u8, out: &mut ArrayString<64>)
+    requires digit { n < 10 }
+    requires room { array_string_len out.old < 64 }
+    ensures { out.new.bytes ≡ out.old.bytes ++ (48 + n) ∷ [] }
+{
+    push_byte(b'0' + n, out);
+}
+
+fn push_byte(b: u8, out: &mut ArrayString<64>)
+    requires ascii { b < 128 }
+    requires room { array_string_len out.old < 64 }
+    ensures { out.new.bytes ≡ out.old.bytes ++ b ∷ [] }
+{
+    out.push(char::from(b));
+}
+
+fn push_number(n: u128, out: &mut ArrayString<64>)
+    requires { array_string_len out.old + length (decimal n) ≤ 64 }
+    ensures { out.new.bytes ≡ out.old.bytes ++ decimal n }
+{
     if n >= 10 {
         push_number(n / 10, out);
     }
     push_digit((n % 10) as u8, out);
 }
 
-fn push_last_digits(n: u128, count: u32, out: &mut ArrayString<64>) {
+fn push_last_digits(n: u128, count: u32, out: &mut ArrayString<64>)
+    requires { array_string_len out.old + count ≤ 64 }
+    ensures { out.new.bytes ≡ out.old.bytes ++ last_digits count n }
+{
     if count > 0 {
         push_last_digits(n / 10, count - 1, out);
         push_digit((n % 10) as u8, out);

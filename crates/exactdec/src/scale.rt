@@ -1,10 +1,11 @@
 //! Decimals at a scale, and times a power of ten.
 
-ghost use Rattle.std.specs.Prelude.{◌≡◌, ℕ, ℤ, pos, ◌≤◌, ◌≤ℤ◌, neg_ℤ};
+ghost use Rattle.std.specs.Prelude.{◌≡◌, ℕ, ℤ, pos, ◌<◌, ◌≤◌, ◌^◌, ◌≤ℤ◌, ◌*ℤ◌, neg_ℤ, unsigned_abs};
 ghost use Rattle.fixdec.specs.Decimal.{value, ten_power};
 ghost use Rattle.fixdec.specs.Frac.{◌≈◌, ◌*Q◌};
+ghost use Rattle.fixdec.specs.Interval.{ends as ends_in_cap, fits_cap};
 ghost use Rattle.fixdec.specs.Member.{IsMember};
-ghost use Rattle.fixdec.specs.Scaled.{dec_span, dec_shifted};
+ghost use Rattle.fixdec.specs.Scaled.{dec_span, dec_shifted, floor_times, ceil_times};
 ghost use Rattle.fixdec.specs.Steps.{OnVal};
 ghost use Rattle.fixdec.specs.Word.{IsReadable};
 
@@ -32,35 +33,57 @@ pub fn shifted(v: &Dec, k: i32) -> Dec
     ensures value { result ≡ dec_shifted v.now k }
     ensures exact { value result ≈ value v.now *Q ten_power k }
 {
+    if v.mant == 0 {
+        return *v;
+    }
     Dec {
         mant: v.mant,
-        exp: if v.mant == 0 { 0 } else { v.exp + k },
+        exp: v.exp + k,
     }
 }
 
-pub(crate) fn ends(mant: i128, k: i32) -> Step<Span> {
+/// `mant * 10^k`, rounded down and up.
+pub(crate) fn ends(mant: i128, k: i32) -> Step<Span>
+    requires size { unsigned_abs mant < 10 ^ 32 }
+    requires low { neg_ℤ (pos 200) ≤ℤ k }
+    ensures { result ≡ ends_in_cap (floor_times mant k) (ceil_times mant k) }
+{
     if k >= 0 {
         return product(mant, k as u32);
     }
     let unit = pow10(k.unsigned_abs().min(38));
-    capped(floor_div(mant, unit), ceil_div(mant, unit))
+    in_cap(floor_div(mant, unit), ceil_div(mant, unit))
 }
 
-fn product(mant: i128, k: u32) -> Step<Span> {
+fn product(mant: i128, k: u32) -> Step<Span>
+    ensures { result ≡ ends_in_cap (mant *ℤ pos (10 ^ k)) (mant *ℤ pos (10 ^ k)) }
+{
     if mant == 0 {
-        return capped(0, 0);
+        return in_cap(0, 0);
     }
-    if k > 18 || mant.unsigned_abs() > CAP as u128 {
+    if k > 18 {
+        return Step::Lost(Why::Range);
+    }
+    if !is_in_cap(mant) {
         return Step::Lost(Why::Range);
     }
     let v = mant * pow10(k);
-    capped(v, v)
+    in_cap(v, v)
 }
 
-fn capped(lo: i128, hi: i128) -> Step<Span> {
-    if lo.unsigned_abs() <= CAP as u128 && hi.unsigned_abs() <= CAP as u128 {
+fn in_cap(lo: i128, hi: i128) -> Step<Span>
+    requires { lo ≤ℤ hi }
+    ensures { result ≡ ends_in_cap lo hi }
+{
+    if is_in_cap(lo) && is_in_cap(hi) {
         Step::Val(Span { lo, hi })
     } else {
         Step::Lost(Why::Range)
     }
+}
+
+fn is_in_cap(v: i128) -> bool
+    ensures { result ≡ fits_cap v }
+{
+    v.unsigned_abs() <= CAP as u128
 }

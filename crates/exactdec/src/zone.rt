@@ -1,7 +1,7 @@
 //! The zone of a semi-diameter, and the power of ten that it is brought to.
 
-ghost use Rattle.std.specs.Prelude.{◌≡◌, ℕ, ℤ, pos, ◌≤ℤ◌, ◌<ℤ◌, neg_ℤ};
-ghost use Rattle.fixdec.specs.Zone.{zone_span, norm, IsNorm};
+ghost use Rattle.std.specs.Prelude.{◌≡◌, ℕ, ℤ, pos, ◌≤◌, ◌^◌, ◌≤ℤ◌, ◌<ℤ◌, neg_ℤ, IfSome};
+ghost use Rattle.fixdec.specs.Zone.{zone_span, IsZone, norm, least_power, IsNorm};
 
 use crate::scale::ends;
 use fixdec::dec::Dec;
@@ -14,31 +14,45 @@ const ZONE_LIMIT: i128 = 1_000_000_000_000;
 /// The zone of a semi-diameter: 1.1 times it, rounded up to a multiple of 10^-9, as a span of one
 /// number at scale 9. None where the semi-diameter isn't above 0 or the zone is above 1000.
 pub fn zone_of(semi: &Dec) -> Option<Span>
-    ensures { result ≡ zone_span semi.now }
+    ensures value { result ≡ zone_span semi.now }
+    ensures range { IfSome result (λ zone. IsZone zone) }
 {
     if semi.mant <= 0 {
         return None;
     }
-    match ends(11 * semi.mant, semi.exp + 8) {
-        Step::Val(s) if s.hi <= ZONE_LIMIT => Some(Span { lo: s.hi, hi: s.hi }),
-        _ => None,
+    let Step::Val(zone) = ends(11 * semi.mant, semi.exp + 8) else {
+        return None;
+    };
+    if zone.hi > ZONE_LIMIT {
+        return None;
     }
+    Some(Span {
+        lo: zone.hi,
+        hi: zone.hi,
+    })
 }
 
 /// The least whole number D from -6 to 6 with `zone^2 <= 10^D`. The zone is one that `zone_of`
-/// gives: a number above 0 and at most 1000, at scale 9.
+/// gives.
 pub fn norm_of(zone: &Span) -> i32
-    requires low { pos 0 <ℤ zone.now.lo }
-    requires high { zone.now.hi ≤ℤ pos 1_000_000_000_000 }
+    requires { IsZone zone.now }
     ensures value { result ≡ norm zone.now.hi }
+    ensures least { IsNorm zone.now.hi result }
 {
-    let square = zone.hi * zone.hi;
-    let mut bound = 1_000_000_000_000;
-    for d in -6..6 {
-        if square <= bound {
-            return d;
+    power_above(zone.hi.unsigned_abs()) as i32 - 18
+}
+
+/// The least power of ten from 12 to 24 that `zone^2` doesn't pass, in units of 10^-9.
+fn power_above(zone: u128) -> u32
+    requires { zone ≤ 10 ^ 12 }
+    ensures value { result ≡ least_power zone 12 12 }
+    ensures low { 12 ≤ result }
+    ensures high { result ≤ 24 }
+{
+    for k in 12..24 {
+        if zone * zone <= 10u128.pow(k) {
+            return k;
         }
-        bound *= 10;
     }
-    6
+    24
 }

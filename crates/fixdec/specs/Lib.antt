@@ -17,6 +17,7 @@ pub mod NearRoot
 pub mod Operations
 pub mod Order
 pub mod OrderLaws
+pub mod PowerLaws
 pub mod Products
 pub mod Quotients
 pub mod Ring

@@ -1,12 +1,11 @@
 -- Decimals at a scale, rounded down and up.
-use Rattle.std.specs.Prelude.{ℕ, suc, ℤ, pos, negsuc, ◌^◌, ◌≤◌, ◌*ℤ◌, ◌+ℤ◌, ◌&&◌, nat_le, unsigned_abs, if◌then◌else◌}
+use Rattle.std.specs.Prelude.{ℕ, suc, ℤ, pos, negsuc, ◌^◌, ◌*ℤ◌, ◌+ℤ◌, if◌then◌else◌}
 use Rattle.std.specs.Ordering.{int_eq}
 use Rattle.fixdec.specs.Decimal.{Decimal}
 use Rattle.fixdec.specs.Ends.{Ends}
+use Rattle.fixdec.specs.Interval.{ends}
 use Rattle.fixdec.specs.Rounding.{floor, ceil}
 use Rattle.fixdec.specs.declared.step.Step.{Step}
-use Rattle.fixdec.specs.declared.step.Step.TheVariants.{Val, Lost}
-use Rattle.fixdec.specs.declared.step.Why.TheVariants.{Range}
 
 -- the greatest whole number that is at most m times ten to the power k
 abbrev pub floor_times : ℤ → ℤ → ℤ
@@ -25,13 +24,9 @@ dec_floor scale d = floor_times d.mant (d.exp +ℤ pos scale)
 unfoldable pub dec_ceil : ℕ → Decimal → ℤ
 dec_ceil scale d = ceil_times d.mant (d.exp +ℤ pos scale)
 
--- the two ends, where both are within the cap
-unfoldable pub capped : ℤ → ℤ → Step Ends
-capped lo hi = if nat_le (unsigned_abs lo) 1_000_000_000_000_000_000 && nat_le (unsigned_abs hi) 1_000_000_000_000_000_000 then Val (record { lo = lo; hi = hi }) else Lost Range
-
 -- the span of a decimal at a scale
 unfoldable pub dec_span : ℕ → Decimal → Step Ends
-dec_span scale d = capped (dec_floor scale d) (dec_ceil scale d)
+dec_span scale d = ends (dec_floor scale d) (dec_ceil scale d)
 
 -- a decimal times ten to the power k
 unfoldable pub dec_shifted : Decimal → ℤ → Decimal

@@ -17,6 +17,12 @@ zone semi = dec_ceil 9 (times_1_1 semi)
 unfoldable pub zone_span : Decimal → Option Ends
 zone_span semi = if int_lt (pos 0) semi.mant && int_le (zone semi) (pos 1_000_000_000_000) then Some (record { lo = zone semi; hi = zone semi }) else None
 
+-- one number above 0 and at most 1000
+pub record IsZone (a : Ends) : Type 0 where
+  pub low : pos 0 <ℤ a.lo
+  pub one : a.lo ≡ a.hi
+  pub high : a.hi ≤ℤ pos 1_000_000_000_000
+
 -- z units of 10^-9
 abbrev pub nano : ℤ → Frac
 nano z = record { num = z; less = 999_999_999 }
@@ -29,7 +35,7 @@ pub record IsNorm (z d : ℤ) : Type 0 where
   pub least : (e : ℤ) → neg_ℤ (pos 6) ≤ℤ e → nano z *Q nano z ≤Q ten_power e → d ≤ℤ e
 
 -- the first of k, k + 1, .. with z^2 at most ten to it, after at most n steps
-abbrev pub least_power : ℕ → ℕ → ℕ → ℕ
+unfoldable pub least_power : ℕ → ℕ → ℕ → ℕ
 least_power z zero k = k
 least_power z (suc n) k = if nat_le (z * z) (10 ^ k) then k else least_power z n (k + 1)
 

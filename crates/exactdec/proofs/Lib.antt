@@ -1,0 +1,4 @@
+pub mod Norms
+pub mod Spans
+pub mod Texts
+pub mod Zones
