@@ -1,3 +1,4 @@
 pub mod Count
 pub mod Held
 pub mod Taken
+pub mod TakenLaws
