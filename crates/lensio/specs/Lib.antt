@@ -1,4 +1,6 @@
 pub mod Count
 pub mod Held
+pub mod Memory
+pub mod MemoryState
 pub mod Taken
 pub mod TakenLaws

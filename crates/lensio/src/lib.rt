@@ -2,6 +2,7 @@
 //! memory and over the system, and whole files and texts moved through them.
 #![tactic(auto)]
 
+pub mod memory;
 pub mod shelf;
 pub mod sink;
 pub mod standard;
