@@ -6,4 +6,6 @@ pub mod memory;
 pub mod shelf;
 pub mod sink;
 pub mod standard;
+#[cfg(test)]
+mod tests;
 pub mod transfer;
