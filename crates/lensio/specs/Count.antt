@@ -1,5 +1,5 @@
 -- Counts that rise, and stand still at the last value of a u64.
-use Rattle.std.specs.Prelude.{◌≡◌, ℕ, ◌+◌, ◌-◌, ◌^◌, ◌≤◌, min}
+use Rattle.std.specs.Prelude.{ℕ, ◌+◌, ◌-◌, ◌^◌, ◌≤◌, min}
 
 -- a count after n more
 abbrev pub plus : ℕ → ℕ → ℕ

@@ -2,7 +2,10 @@
 //! memory and over the system, and whole files and texts moved through them.
 #![tactic(auto)]
 
+pub mod memory;
 pub mod shelf;
 pub mod sink;
 pub mod standard;
+#[cfg(test)]
+mod tests;
 pub mod transfer;

@@ -57,9 +57,9 @@ pub trait Shelf {
         ensures failed { OnErr result (Rose (faults self.old) (faults self.new)) }
 
         // It takes from what is left just what it gives, and what was told stays told.
-        ensures bound { IfOk result (λ count. count ≤ length to.new) }
+        ensures bound { IfOk result (λ count. count ≤ length to.old) }
         ensures front { IfOk result (λ count. Consumes (left self.old) (left self.new) (take count to.new)) }
-        ensures end { IfOk result (λ count. count ≡ 0 → IsAtEnd (left self.old)) }
+        ensures end { IfOk result (λ count. count ≡ 0 → IsAtEnd (left self.new)) }
         ensures kept { OnErr result (Keeps (left self.old) (left self.new)) }
 
         ensures given { IfOk result (λ count. given self.new ≡ plus (given self.old) count) }

@@ -1,7 +1,7 @@
 //! Whole files in, and whole texts out.
 
-ghost use Rattle.std.specs.Prelude.{◌≡◌, ◌<◌, ◌≤◌, ◌+◌, ℕ, IfOk, OnOk, OnErr, IsErrOf, vec_len};
-ghost use Rattle.std.specs.Io.KnownBytes.{IsAtEnd};
+ghost use Rattle.std.specs.Prelude.{◌≡◌, ◌<◌, ◌≤◌, ◌+◌, ℕ, length, IfSome, IfOk, OnOk, OnErr, IsErrOf, vec_len};
+ghost use Rattle.std.specs.Io.KnownBytes.{Consumes, IsAtEnd};
 ghost use Rattle.lensio.specs.Count.{Rose, plus};
 ghost use Rattle.lensio.specs.Held.{Holds, HoldsMore, Lacks};
 ghost use Rattle.lensio.specs.Taken.{Takes, TakesFront};
@@ -75,6 +75,28 @@ pub fn slurp<F: Shelf>(alloc: Global, shelf: &mut F, name: &[u8]) -> Result<Vec<
     if !shelf.choose(name)? {
         return Err(SlurpFault::Absent);
     }
+    read_rest(alloc, shelf)
+}
+
+// All that is left of the chosen file.
+fn read_rest<F: Shelf>(alloc: Global, shelf: &mut F) -> Result<Vec<u8>, SlurpFault>
+    ensures bytes { IfOk result (λ bytes. Consumes (F.left shelf.old) (F.left shelf.new) bytes.items) }
+    ensures within { IfOk result (λ bytes. vec_len bytes ≤ FILE_LIMIT) }
+    ensures end { OnOk result (IsAtEnd (F.left shelf.new)) }
+
+    ensures absent { IsErrOf result SlurpFault.Absent → ⊥ }
+    ensures fault { IsErrOf result SlurpFault.Fault → Rose (F.faults shelf.old) (F.faults shelf.new) }
+    ensures too_long { IsErrOf result SlurpFault.TooLong → IfSome (F.left shelf.old) (λ bytes. FILE_LIMIT < length bytes) }
+
+    ensures given { IfOk result (λ bytes. F.given shelf.new ≡ plus (F.given shelf.old) (vec_len bytes)) }
+    ensures given_too_long { IsErrOf result SlurpFault.TooLong → F.given shelf.new ≡ plus (F.given shelf.old) (FILE_LIMIT + 1) }
+    ensures too_long_where { F.given shelf.old + FILE_LIMIT < F.given shelf.new → IsErrOf result SlurpFault.TooLong }
+
+    ensures same_held { F.held shelf.new ≡ F.held shelf.old }
+    ensures faults_rise { F.faults shelf.old ≤ F.faults shelf.new }
+    ensures absences_rise { F.absences shelf.old ≤ F.absences shelf.new }
+    ensures given_rises { F.given shelf.old ≤ F.given shelf.new }
+{
     let mut bytes = Vec::new(alloc);
     let mut piece = [0u8; PIECE];
     loop {
