@@ -17,7 +17,7 @@ returns-then-a-lt0-clause-exact c =
 
 pub overflow_cast-hi : goal.overflow_cast-hi
 overflow_cast-hi c =
-    let e = c.isqrt_ceil-hi.ensures in
+    let e = c.isqrt_ceil-hi.ensures.value in
     let l = root_up_small c.radicand-2.result c.radicand-2.ensures.bound in
     omega (arith, ints)
 
@@ -30,7 +30,7 @@ low c =
 
 high : (c : goal.After-isqrt_ceil-hi) → cast_signed w128 c.isqrt_ceil-hi.result ≡ pos (root_up_by (positive_part c.a.inside.hi * 10 ^ c.args.scale))
 high c =
-    let e = c.isqrt_ceil-hi.ensures in
+    let e = c.isqrt_ceil-hi.ensures.value in
     let l = root_up_small c.radicand-2.result c.radicand-2.ensures.bound in
     to_z_pos w128 c.isqrt_ceil-hi.result (omega arith)
     ∙ ap pos (e ∙ ap root_up_by (c.radicand-2.ensures.value ∙ ap (λ z. positive_part z * 10 ^ c.args.scale) (small_is c.a.inside.hi c.a.invariant.2)))

@@ -14,8 +14,8 @@ quotients c =
     let mant_fits = c.ranges.mant in
     let k_fits = c.ranges.k in
     let unit_fits : FitsSigned w128 c.pow10-unit.result = record { sfits = c.pow10-unit.type_inv } in
-    let below = c.floor_div.ensures in
-    let above = c.ceil_div.ensures in
+    let below = c.floor_div.ensures.value in
+    let above = c.ceil_div.ensures.value in
     let size = c.unsigned_abs.ensures.value in
     let test = c.if-k-ge0.false in
     ends_steps c.args.mant c.args.k c.pow10-unit.result c.floor_div.result c.ceil_div.result c.unsigned_abs.result c.min.result c.requires.size (simp to_z-of_z at test) (simp to_z-of_z at size) c.min.ensures c.pow10-unit.ensures.value (simp to_z-of_z at below) (simp to_z-of_z at above)
@@ -42,8 +42,8 @@ returns c =
     let unit_fits : FitsSigned w128 c.pow10-unit.result = record { sfits = c.pow10-unit.type_inv } in
     let floor_fits : FitsSigned w128 c.floor_div.result = record { sfits = c.floor_div.type_inv } in
     let ceil_fits : FitsSigned w128 c.ceil_div.result = record { sfits = c.ceil_div.type_inv } in
-    let below = c.floor_div.ensures in
-    let above = c.ceil_div.ensures in
+    let below = c.floor_div.ensures.value in
+    let above = c.ceil_div.ensures.value in
     let size = c.unsigned_abs.ensures.value in
     let test = c.if-k-ge0.false in
     let q = ends_steps c.args.mant c.args.k c.pow10-unit.result c.floor_div.result c.ceil_div.result c.unsigned_abs.result c.min.result c.requires.size (simp to_z-of_z at test) (simp to_z-of_z at size) c.min.ensures c.pow10-unit.ensures.value (simp to_z-of_z at below) (simp to_z-of_z at above) in
