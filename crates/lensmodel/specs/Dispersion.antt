@@ -1,5 +1,5 @@
 -- The refractive index of a glass at a wavelength, by its catalogue's dispersion formula.
-use Rattle.std.specs.Prelude.{◌≡◌, pos}
+use Rattle.std.specs.Prelude.{◌≡◌, ◌⊎◌, pos}
 use Rattle.fixdec.specs.Decimal.{Decimal, value}
 use Rattle.fixdec.specs.Frac.{Frac, ◌≈◌, ◌<Q◌, ◌+Q◌, ◌*Q◌, ◌-Q◌, whole}
 use Rattle.lensmodel.specs.Residual.{IsWithin}
@@ -38,6 +38,11 @@ pub record IsGlassIndex (eps : Frac) (g : Glass) (wave : Decimal) (n : Frac) : T
   pub positive : whole (pos 0) <Q n
   pub formula : IsFormula g (value wave *Q value wave) f
   pub square : IsWithin eps (n *Q n) f
+
+-- a medium whose formula is used: air, or a glass of formula 1 or 2
+abbrev pub IsKnown : Medium → Type 0
+IsKnown Air = Unit {0}
+IsKnown (Of g) = (g.formula ≡ 1) ⊎ (g.formula ≡ 2)
 
 -- n is an index of the medium: exactly 1 of air
 abbrev pub IsIndex : Frac → Medium → Decimal → Frac → Type 0

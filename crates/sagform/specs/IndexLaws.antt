@@ -10,31 +10,24 @@ use Rattle.fixdec.specs.Linear.{linear, linear_le, fact, name, order, no_fact, r
 use Rattle.fixdec.specs.Member.{IsMember, IsNear, Symbols, units}
 use Rattle.fixdec.specs.Operations.{Operations, IsLawful}
 use Rattle.fixdec.specs.Order.{nn_in, nn_whole}
+use Rattle.fixdec.specs.PowerLaws.{dec_span_member}
 use Rattle.fixdec.specs.Scaled.{dec_span}
 use Rattle.fixdec.specs.Steps.{◌>>=◌, OnVal, OnVal-then}
 use Rattle.fixdec.specs.declared.step.Step.{Step}
 use Rattle.fixdec.specs.declared.step.Step.TheVariants.{Val, Empty, Lost}
 use Rattle.lensmodel.specs.Constants.{decimal_row, whole_row}
-use Rattle.lensmodel.specs.Dispersion.{IsSchott, IsSellmeier, IsFormula, IsGlassIndex, IsIndex, IsResonance}
+use Rattle.lensmodel.specs.Dispersion.{IsSchott, IsSellmeier, IsFormula, IsGlassIndex, IsIndex, IsResonance, IsKnown}
 use Rattle.lensmodel.specs.IndexRows.{schott_rows, sellmeier_rows, resonance_row, formula_rows, index_rows}
 use Rattle.lensmodel.specs.Residual.{IsWithin}
 use Rattle.lensmodel.specs.declared.glass.Glass.{Glass}
 use Rattle.lensmodel.specs.declared.glass.Medium.{Medium}
 use Rattle.lensmodel.specs.declared.glass.Medium.TheVariants.{Air, Of}
 
-pub dec_span-member : (scale : ℕ) (d : Decimal) → OnVal (dec_span scale d) (λ a. IsMember scale a (value d))
-dec_span-member scale d = ?
-
 -- what follows of a value
 pub OnVal-map : {A : Type 0} (r : Step A) (P Q : A → Type 0) → ((x : A) → P x → Q x) → OnVal r P → OnVal r Q
 OnVal-map (Val x) P Q f h = f x h
 OnVal-map Empty P Q f h = h
 OnVal-map (Lost w) P Q f h = tt
-
--- a medium whose formula is known: air, or a glass of formula 1 or 2
-abbrev pub IsKnown : Medium → Type 0
-IsKnown Air = Unit {0}
-IsKnown (Of g) = (g.formula ≡ 1) ⊎ (g.formula ≡ 2)
 
 units_nn : (scale : ℕ) → whole (pos 0) ≤Q units scale
 units_nn scale = nn_in (nn_whole (10 ^ scale))
@@ -63,11 +56,17 @@ IsNear-within scale e eps f g h u w = record {
     one_nn : whole (pos 0) ≤Q whole (pos 1)
     one_nn = nn_in (nn_whole 1)
 
+-- an answer holds every index of the medium, at each wavelength in the span, within each residual that e units cover
+abbrev pub EnclosesIndex : {A : Type 0} → ℕ → (A → Symbols → Frac → Type 0) → Medium → Ends → ℤ → Step A → Type 0
+EnclosesIndex scale member m a e r =
+    (s : Symbols) (wave : Decimal) (eps n : Frac) → IsMember scale a (value wave) → eps *Q units scale ≤Q whole e
+    → IsIndex eps m wave n → OnVal r (λ x. member x s n)
+
 module _ {A : Type 0} (scale : ℕ) (o : Operations A) (member : A → Symbols → Frac → Type 0) (law : IsLawful scale o member) where
   -- a decimal's value is a member of what stands for it
   pub decimal_row-member : (s : Symbols) (d : Decimal) → OnVal (decimal_row o scale d) (λ r. member r s (value d))
   decimal_row-member s d =
-      OnVal-then (dec_span scale d) _ (λ a. IsMember scale a (value d)) _ (dec_span-member scale d) λ a h. law.of_span s a (value d) h
+      OnVal-then (dec_span scale d) _ (λ a. IsMember scale a (value d)) _ (dec_span_member scale d) λ a h. law.of_span s a (value d) h
 
   pub resonance_row-member : (s : Symbols) (k L : Decimal) (v : A) (l t : Frac) → member v s l → IsResonance L l t
       → OnVal (resonance_row o scale k L v) (λ r. member r s (value k *Q t))
@@ -139,12 +138,11 @@ module _ {A : Type 0} (scale : ℕ) (o : Operations A) (member : A → Symbols �
       (λ x hx. law.same s x _ _ (≈_sym k.sum) hx) (sellmeier_rows-member s g v l k.t1 k.t2 k.t3 hv k.first k.second k.third))
 
   -- the rows of the index hold every index
-  pub index_rows-member : (s : Symbols) (m : Medium) (wave : Decimal) (a : Ends) (e : ℤ) (eps n : Frac) → IsKnown m → IsMember scale a (value wave)
-      → eps *Q units scale ≤Q whole e → IsIndex eps m wave n → OnVal (index_rows o scale m a e) (λ x. member x s n)
+  pub index_rows-encloses : (m : Medium) (a : Ends) (e : ℤ) → IsKnown m → EnclosesIndex scale member m a e (index_rows o scale m a e)
   unfolding index_rows
-  index_rows-member s Air wave a e eps n k ha he h =
+  index_rows-encloses Air a e k s wave eps n ha he h =
       OnVal-map (whole_row o scale (pos 1)) (λ x. member x s (whole (pos 1))) (λ x. member x s n) (λ x hx. law.same s x _ _ (≈_sym h) hx) (whole_row-member s)
-  index_rows-member s (Of g) wave a e eps n k ha he h =
+  index_rows-encloses (Of g) a e k s wave eps n ha he h =
       let w = value wave in
       OnVal-then (o.square (o.of_span a)) _ (λ v. member v s (w *Q w)) _ (law.square s (o.of_span a) w (law.of_span s a w ha)) λ v hv.
       OnVal-then (formula_rows o scale g v) _ (λ x. member x s h.f) _ (formula_rows-member s g v (w *Q w) h.f k hv h.formula) λ x hx.
