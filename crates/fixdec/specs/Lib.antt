@@ -20,6 +20,7 @@ pub mod OrderLaws
 pub mod PowerLaws
 pub mod Products
 pub mod Quotients
+pub mod Reading
 pub mod Ring
 pub mod RingLaws
 pub mod Root

@@ -1,5 +1,6 @@
 pub mod Bending
 pub mod BendingRows
+pub mod Catalogue
 pub mod Chain
 pub mod Chains
 pub mod Claims
