@@ -13,6 +13,7 @@ pub mod HitRows
 pub mod IndexRows
 pub mod Media
 pub mod Outcome
+pub mod Picking
 pub mod Preparation
 pub mod Printed
 pub mod Residual
@@ -21,4 +22,5 @@ pub mod SlopeRounds
 pub mod Start
 pub mod StartRows
 pub mod TextLines
+pub mod TopCall
 pub mod Values
