@@ -1,5 +1,5 @@
 -- Powers of ten as fractions, and the values of decimals.
-use Rattle.std.proofs.Common.{◌≡◌, ℕ, suc, ◌+◌, ◌-◌, ◌*◌, ◌^◌, ◌≤◌, refl, sym, ◌∙◌, ap, List, [], ◌∷◌, arith, Bool, true, false, ◌⊎◌, inl, inr}
+use Rattle.std.proofs.Common.{◌≡◌, ℕ, suc, ◌+◌, ◌-◌, ◌^◌, refl, sym, ◌∙◌, ap, [], ◌∷◌, arith, Bool, true, false, ◌⊎◌, inl, inr}
 use Rattle.std.proofs.Math.Nat.{one-le-pow}
 use Rattle.std.proofs.lemmas.Int.{ints}
 use Rattle.std.proofs.lemmas.Nat.{pow-add}
@@ -7,15 +7,14 @@ use Rattle.std.specs.Bool.{Decides}
 use Rattle.std.specs.Cmp.{signed_Decides}
 use Rattle.std.specs.Ordering.{int_eq}
 use Rattle.std.specs.Prelude.{ℤ, pos, negsuc, ◌+ℤ◌, ◌*ℤ◌, ◌≤ℤ◌, ◌&&◌, if◌then◌else◌}
-use lib.IntN.{neg_ℤ}
 use borrow.Author.Differences.{up, down}
 use Rattle.fixdec.specs.Decimal.{Decimal, tenth_power, ten_power, value}
 use Rattle.fixdec.specs.Ends.{Ends}
 use Rattle.fixdec.specs.Frac.{Frac, den, whole, neg_Q, ◌≈◌, ◌≤Q◌, ◌*Q◌, ◌-Q◌}
-use Rattle.fixdec.specs.FracLaws.{Is, is, is_mul, is_whole, same_if, cancel, ≈_refl, ≈_sym, ≈_trans}
+use Rattle.fixdec.specs.FracLaws.{Is, is, is_mul, is_whole, same_if, cancel, ≈_sym, ≈_trans}
 use Rattle.fixdec.specs.IntLaws.{ringℤ}
 use Rattle.fixdec.specs.Interval.{ends, fits_cap}
-use Rattle.fixdec.specs.Linear.{linear, linear_le, by_ring, fact, name, order, no_fact, reads}
+use Rattle.fixdec.specs.Linear.{linear, fact, no_fact, reads}
 use Rattle.fixdec.specs.Member.{IsMember, units}
 use Rattle.fixdec.specs.Order.{along, le_of_same, le_trans}
 use Rattle.fixdec.specs.Ring.{var, con, ◌⊗◌}
@@ -85,11 +84,11 @@ ten_power-add a b =
     let hu : US ≈ UA *Q UB = whole_power-add (up a) (up b) in
     cancel_power S (A *Q B) (down a + down b)
     (linear (A ∷ B ∷ S ∷ DA ∷ DB ∷ DS ∷ UA ∷ UB ∷ US ∷ []) _ _ (search reads depth 20 fits 4000)
-      (fact (whole (pos 1)) hs (search reads depth 20 fits 4000)
-        (fact (whole (pos 1)) hu (search reads depth 20 fits 4000)
-          (fact (neg_Q (A *Q B)) hd (search reads depth 20 fits 4000)
-            (fact (neg_Q (B *Q DB)) ha (search reads depth 20 fits 4000)
-              (fact (neg_Q UA) hb (search reads depth 20 fits 4000) no_fact))))) tt)
+    (fact (whole (pos 1)) hs (search reads depth 20 fits 4000)
+    (fact (whole (pos 1)) hu (search reads depth 20 fits 4000)
+    (fact (neg_Q (A *Q B)) hd (search reads depth 20 fits 4000)
+    (fact (neg_Q (B *Q DB)) ha (search reads depth 20 fits 4000)
+    (fact (neg_Q UA) hb (search reads depth 20 fits 4000) no_fact))))) tt)
 
 -- a decimal times a power of ten
 pub value-times : (m e k : ℤ) → value (record { mant = m; exp = e +ℤ k }) ≈ value (record { mant = m; exp = e }) *Q ten_power k
@@ -156,6 +155,6 @@ dec_shifted-some d k h = rw (false_from_not (int_eq d.mant (pos 0)) (λ e. h ((s
 -- the value of a decimal that is shifted
 pub value-shifted : (d : Decimal) (k : ℤ) → value (dec_shifted d k) ≈ value d *Q ten_power k
 value-shifted d k = elim (Decides-cases (int_eq d.mant (pos 0)) (signed_Decides d.mant (pos 0))) [
-    inl h ↦ rw (dec_shifted-zero d k h) (≈_trans (value-zero d.mant (pos 0) (d.exp +ℤ k) h) (value-times d.mant d.exp k))
-    | inr h ↦ rw (dec_shifted-some d k h) (value-times d.mant d.exp k)
-  ]
+  | inl h ↦ rw (dec_shifted-zero d k h) (≈_trans (value-zero d.mant (pos 0) (d.exp +ℤ k) h) (value-times d.mant d.exp k))
+  | inr h ↦ rw (dec_shifted-some d k h) (value-times d.mant d.exp k)
+]

@@ -1,5 +1,5 @@
 -- The zone of a semi-diameter, and the power of ten that it is brought to.
-use Rattle.std.specs.Prelude.{◌≡◌, ℕ, zero, suc, ℤ, pos, ◌+◌, ◌*◌, ◌^◌, ◌≤◌, ◌≤ℤ◌, ◌<ℤ◌, ◌-ℤ◌, ◌*ℤ◌, ◌&&◌, nat_le, int_lt, int_le, unsigned_abs, neg_ℤ, Option, Some, None, if◌then◌else◌}
+use Rattle.std.specs.Prelude.{◌≡◌, ℕ, zero, suc, ℤ, pos, ◌+◌, ◌*◌, ◌^◌, ◌≤ℤ◌, ◌<ℤ◌, ◌-ℤ◌, ◌*ℤ◌, ◌&&◌, nat_le, int_lt, int_le, unsigned_abs, neg_ℤ, Option, Some, None, if◌then◌else◌}
 use Rattle.fixdec.specs.Decimal.{Decimal, ten_power}
 use Rattle.fixdec.specs.Ends.{Ends}
 use Rattle.fixdec.specs.Frac.{Frac, ◌≤Q◌, ◌*Q◌}

@@ -26,6 +26,8 @@ impl Model for Dec {
 }
 
 impl Default for Dec {
+    ghost is_default = { λ d. d ≡ record { mant = pos 0; exp = pos 0 } };
+
     fn default() -> Dec {
         Dec { mant: 0, exp: 0 }
     }

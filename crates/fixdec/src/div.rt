@@ -35,3 +35,39 @@ pub fn pow10(k: u32) -> i128
 {
     10u128.pow(k) as i128
 }
+
+#[cfg(test)]
+mod tests {
+    use super::*;
+
+    #[test]
+    fn quotients(rt: HostRuntime) {
+        let most: i128 = 100_000_000_000_000_000_000_000_000_000_000_000_000;
+        let third: i128 = 33_333_333_333_333_333_333_333_333_333_333_333_333;
+        for (a, b, low, high) in [
+            (7i128, 2i128, 3, 4),
+            (-7, 2, -4, -3),
+            (7, -2, -4, -3),
+            (-7, -2, 3, 4),
+            (6, -3, -2, -2),
+            (-1, 1_000_000_000_000_000, -1, 0),
+            (0, -5, 0, 0),
+            (most, 3, third, third + 1),
+            (-most, 3, -third - 1, -third),
+        ] {
+            assert!(rt; b != 0 && a.unsigned_abs() <= most.unsigned_abs());
+            assert_eq!(rt; floor_div(a, b), low, "{a} over {b}");
+            assert_eq!(rt; ceil_div(a, b), high, "{a} over {b}");
+        }
+    }
+
+    #[test]
+    fn powers(rt: HostRuntime) {
+        assert_eq!(rt; pow10(0), 1);
+        assert_eq!(rt; pow10(6), 1_000_000);
+        assert_eq!(rt;
+            pow10(38),
+            100_000_000_000_000_000_000_000_000_000_000_000_000
+        );
+    }
+}

@@ -152,6 +152,7 @@ impl<const S: u32> Ord for Fix<S> {
 #[cfg(test)]
 mod tests {
     use super::*;
+    use std::process::Abort;
 
     struct Alone;
 
@@ -178,5 +179,46 @@ mod tests {
     fn scales_do_not_mix(rt: HostRuntime) {
         assert!(rt; <Fix<6> as Sums<Fix<9>, _>>::is_alone());
         assert!(rt; <Fix<9> as Sums<Fix<6>, _>>::is_alone());
+    }
+
+    fn number<const S: u32>(rt: &impl Abort, raw: i128) -> Fix<S>
+        requires { S ≤ 15 }
+        ensures { result ≡ raw }
+    {
+        Fix::new(raw).expect(rt, "within the cap")
+    }
+
+    #[test]
+    fn ends_at_the_cap(rt: HostRuntime) {
+        for (raw, fits) in [
+            (0, true),
+            (CAP, true),
+            (-CAP, true),
+            (CAP + 1, false),
+            (-CAP - 1, false),
+        ] {
+            assert_eq!(rt; Fix::<9>::new(raw).is_some(), fits, "{raw}");
+        }
+    }
+
+    #[test]
+    fn sums_and_differences(rt: HostRuntime) {
+        let most: Fix<9> = number(&rt, CAP);
+        let one: Fix<9> = number(&rt, 1);
+        let next: Fix<9> = number(&rt, CAP - 1);
+        assert!(rt; most.try_add(one) == Step::Lost(Why::Range));
+        assert!(rt; next.try_add(one) == Step::Val(most));
+        assert!(rt; most.try_sub(one) == Step::Val(next));
+        assert!(rt; (-most).try_sub(one) == Step::Lost(Why::Range));
+    }
+
+    #[test]
+    fn operators(rt: HostRuntime) {
+        let a: Fix<6> = number(&rt, 1_500_000);
+        let b: Fix<6> = number(&rt, -250_000);
+        assert_eq!(rt; (a + b).raw(), 1_250_000);
+        assert_eq!(rt; (a - b).raw(), 1_750_000);
+        assert_eq!(rt; (-a).raw(), -1_500_000);
+        assert!(rt; b < a && a != b && -a < b);
     }
 }

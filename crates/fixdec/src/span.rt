@@ -29,6 +29,8 @@ impl Model for Span {
 }
 
 impl Default for Span {
+    ghost is_default = { λ s. s ≡ record { lo = pos 0; hi = pos 0 } };
+
     fn default() -> Span {
         Span { lo: 0, hi: 0 }
     }

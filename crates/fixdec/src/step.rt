@@ -1,5 +1,7 @@
 //! The answer of one operation.
 
+ghost use Rattle.std.specs.Prelude.{◌≡◌};
+
 /// Why a value is lost: what the arithmetic can't enclose.
 #[derive(Clone, Copy, Debug, PartialEq, Eq)]
 pub enum Why {
@@ -24,6 +26,10 @@ pub enum Step<T> {
 }
 
 impl<T> Default for Step<T> {
+    ghost use Rattle.fixdec.specs.declared.step.Step.TheVariants.{Empty};
+
+    ghost is_default = { λ s. s ≡ Empty };
+
     fn default() -> Step<T> {
         Step::Empty
     }
