@@ -1,5 +1,6 @@
 -- A glass catalogue: which lines offend, and the book of glasses that the lines make. A line is its list of words.
 use Rattle.std.specs.Prelude.{ℕ, zero, suc, ℤ, pos, negsuc, ◌*ℤ◌, ◌^◌, Bool, true, false, ◌&&◌, ◌||◌, nat_eq, nat_le, nat_lt, List, [], ◌∷◌, ◌++◌, length, take, drop, codes, slice_get, Option, Some, None, Result, Ok, Err, if◌then◌else◌}
+use lib.Pointwise.{pointwise}
 use Rattle.fixdec.specs.Decimal.{Decimal}
 use Rattle.fixdec.specs.Reading.{decimal_of}
 use Rattle.lensmodel.specs.Media.{same_name}
@@ -16,9 +17,7 @@ Words = List (List ℕ)
 
 -- whether two words are the same
 abbrev pub same_word : List ℕ → List ℕ → Bool
-same_word [] [] = true
-same_word (a ∷ xs) (b ∷ ys) = nat_eq a b && same_word xs ys
-same_word xs ys = false
+same_word a b = pointwise nat_eq a b
 
 -- whether a line begins with a tag
 abbrev pub has_tag : List ℕ → Words → Bool
@@ -181,12 +180,12 @@ all_glasses (l ∷ more) = if is_NM l then glass_of l (block more) ∷ all_glass
 -- the first glass of a name, compared after ASCII upper-casing
 abbrev pub find_glass : List ℕ → List Glass → Option Glass
 find_glass name [] = None
-find_glass name (g ∷ more) = if same_name g.name.items name then Some g else find_glass name more
+find_glass name (g ∷ more) = if same_name name g.name.items then Some g else find_glass name more
 
 -- the glasses of other names
 abbrev pub without_name : List ℕ → List Glass → List Glass
 without_name name [] = []
-without_name name (g ∷ more) = if same_name g.name.items name then without_name name more else g ∷ without_name name more
+without_name name (g ∷ more) = if same_name name g.name.items then without_name name more else g ∷ without_name name more
 
 -- of glasses with equal names the first
 abbrev pub book : List Glass → List Glass

@@ -1,5 +1,6 @@
 -- The media between surfaces.
-use Rattle.std.specs.Prelude.{ℕ, suc, ◌-◌, Bool, true, false, ◌&&◌, nat_eq, nat_le, List, [], ◌∷◌, slice_index_or, not, if◌then◌else◌}
+use Rattle.std.specs.Prelude.{ℕ, suc, ◌-◌, Bool, true, false, ◌&&◌, nat_eq, nat_le, List, [], ◌∷◌, slice_index_or, not, if◌then◌else◌, map}
+use lib.Pointwise.{pointwise}
 use Rattle.lensmodel.specs.Values.{owner, reflects, stands_on, tolerances}
 use Rattle.lensmodel.specs.declared.glass.Medium.{Medium}
 use Rattle.lensmodel.specs.declared.glass.Medium.TheVariants.{Air, Of}
@@ -18,9 +19,7 @@ upper unit = if nat_le 97 unit && nat_le unit 122 then unit - 32 else unit
 
 -- whether two names are equal after ASCII upper-casing
 abbrev pub same_name : List ℕ → List ℕ → Bool
-same_name [] [] = true
-same_name (a ∷ xs) (b ∷ ys) = nat_eq (upper a) (upper b) && same_name xs ys
-same_name xs ys = false
+same_name a b = pointwise nat_eq (map upper a) (map upper b)
 
 -- whether two media are the same: both air, or glasses of one name
 abbrev pub same_medium : Medium → Medium → Bool
