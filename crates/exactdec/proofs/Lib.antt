@@ -1,3 +1,5 @@
+pub mod Digits
+pub mod Mantissas
 pub mod Norms
 pub mod Spans
 pub mod Texts

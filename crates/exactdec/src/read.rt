@@ -1,11 +1,13 @@
 //! Decimal words.
 
-ghost use Rattle.std.specs.Prelude.{◌≡◌, ◌==◌, ℕ, ℤ, pos, ◌+◌, ◌-◌, ◌^◌, ◌<◌, ◌≤◌, ◌≤ℤ◌, ◌||◌, neg_ℤ, List, [], ◌++◌, length, min, IfOk, IsOk, IfErr, IsTrue, ◌↔◌};
+ghost use Rattle.std.specs.Prelude.{◌≡◌, ◌==◌, ℕ, ℤ, pos, ◌+◌, ◌-◌, ◌^◌, ◌<◌, ◌≤◌, List, [], ◌++◌, length, take, drop, min, IfOk, IfErr, nat_lt};
 ghost use Rattle.fixdec.specs.Decimal.{value};
 ghost use Rattle.fixdec.specs.Frac.{◌≈◌};
-ghost use Rattle.fixdec.specs.Word.{Parts as Written, Spells, written, signed, number};
-ghost use Rattle.exactdec.specs.Reading.{IsAnswer, reading, split, judged, is_digit, is_sign, is_point, is_mark, unit_front, unit_after, digits_front, digits_after};
+ghost use Rattle.fixdec.specs.Word.{Parts as Written, Spells, written};
+ghost use Rattle.exactdec.specs.Reading.{IsAnswer, reading, judged, is_digit as is_digit_unit, is_sign, is_point, is_mark, unit_front, unit_after, digits_front, digits_after};
+ghost use Rattle.exactdec.specs.Stages.{IsSplit, IsNotSplit, HasDigits, parts_of};
 
+use crate::mantissa::{Mantissa, ZERO, power_of, signed};
 use fixdec::dec::Dec;
 
 /// Why a word isn't read.
@@ -36,26 +38,19 @@ pub fn read(word: &[u16]) -> Result<Dec, DecFault>
     // Whatever zeros it is written with, the value is mantissa times power of ten.
     ensures value { IfOk result (λ d. (p : Written) → Spells word.now p → value d ≈ value (written p)) }
 {
-    let parts = split_word(word)?;
+    let parts = split(word)?;
     judge(&parts)
 }
 
 const PLUS: u16 = 43;
-
 const MINUS: u16 = 45;
-
 const POINT: u16 = 46;
-
-const ZERO: u16 = 48;
-
 const NINE: u16 = 57;
-
 const CAPITAL_E: u16 = 69;
-
 const SMALL_E: u16 = 101;
 
 /// The parts of a word that its value is made of.
-#[derive(Drop)]
+#[derive(Clone, Copy)]
 struct Parts<'a> {
     sign: &'a [u16],
     whole: &'a [u16],
@@ -64,45 +59,33 @@ struct Parts<'a> {
     power: &'a [u16],
 }
 
-fn split_word(word: &[u16]) -> Result<Parts<'_>, DecFault> {
+fn split(word: &[u16]) -> Result<Parts<'_>, DecFault>
+    ensures found { IfOk result (λ p. IsSplit word.now (parts_of p)) }
+    ensures fault { IfErr result (λ e. IsNotSplit word.now e) }
+{
     let (sign, rest) = split_sign(word);
     let (whole, rest) = split_digits(rest);
     let (_, rest) = split_point(rest);
     let (part, rest) = split_digits(rest);
+    let at = word.len() - rest.len();
     if whole.is_empty() && part.is_empty() {
-        return Err(DecFault::NotNumber {
-            at: word.len() - rest.len(),
-        });
+        return Err(DecFault::NotNumber { at });
     }
-    let (mark, rest) = split_mark(rest);
+    let (mark, after) = split_mark(rest);
     if mark.is_empty() {
         if !rest.is_empty() {
-            return Err(DecFault::NotNumber {
-                at: word.len() - rest.len(),
-            });
+            return Err(DecFault::NotNumber { at });
         }
-        return Ok(Parts {
-            sign,
-            whole,
-            part,
-            power_sign: mark,
-            power: mark,
-        });
+        return Ok(Parts { sign, whole, part, power_sign: mark, power: mark });
     }
-    let (power_sign, rest) = split_sign(rest);
+    let (power_sign, rest) = split_sign(after);
     let (power, rest) = split_digits(rest);
     if power.is_empty() || !rest.is_empty() {
         return Err(DecFault::NotNumber {
             at: word.len() - rest.len(),
         });
     }
-    Ok(Parts {
-        sign,
-        whole,
-        part,
-        power_sign,
-        power,
-    })
+    Ok(Parts { sign, whole, part, power_sign, power })
 }
 
 fn split_sign(word: &[u16]) -> (&[u16], &[u16])
@@ -139,26 +122,42 @@ fn split_digits(word: &[u16]) -> (&[u16], &[u16])
     ensures front { result.0.now ≡ digits_front word.now }
     ensures after { result.1.now ≡ digits_after word.now }
 {
-    let mut count = 0;
-    for c in word {
-        if *c < ZERO || *c > NINE {
-            return word.split_at(count);
-        }
-        count += 1;
-    }
-    word.split_at(count)
+    word.split_at(count_digits(word))
 }
 
-fn judge(parts: &Parts<'_>) -> Result<Dec, DecFault> {
+/// How many digits the word begins with.
+fn count_digits(word: &[u16]) -> usize
+    ensures front { take result word.now ≡ digits_front word.now }
+    ensures after { drop result word.now ≡ digits_after word.now }
+    ensures within { result ≤ length word.now }
+{
+    for (i, c) in word.iter().enumerate() {
+        if !is_digit(*c) {
+            return i;
+        }
+    }
+    word.len()
+}
+
+fn is_digit(c: u16) -> bool
+    ensures { result ≡ is_digit_unit c }
+{
+    ZERO <= c && c <= NINE
+}
+
+fn judge(parts: &Parts<'_>) -> Result<Dec, DecFault>
+    requires { HasDigits (parts_of parts.now) }
+    ensures { result ≡ judged (parts_of parts.now) }
+{
     let mantissa = Mantissa::of(parts.whole, parts.part);
-    if mantissa.digits > 30 {
+    if mantissa.kept > 30 {
         return Err(DecFault::Digits);
     }
-    if mantissa.value == 0 {
+    if mantissa.kept == 0 {
         return Ok(Dec::default());
     }
-    let exp = signed(parts.power_sign, power_of(parts.power)) - parts.part.len() as i128
-        + mantissa.zeros as i128;
+    let zeros = mantissa.seen - mantissa.kept;
+    let exp = signed(parts.power_sign, power_of(parts.power)) - parts.part.len() as i128 + zeros as i128;
     if exp < -60 || exp > 30 {
         return Err(DecFault::Exponent);
     }
@@ -166,76 +165,4 @@ fn judge(parts: &Parts<'_>) -> Result<Dec, DecFault> {
         mant: signed(parts.sign, mantissa.value),
         exp: exp as i32,
     })
-}
-
-fn signed(sign: &[u16], size: u128) -> i128
-    requires { size < 2 ^ 127 }
-{
-    match sign {
-        [MINUS, ..] => -(size as i128),
-        _ => size as i128,
-    }
-}
-
-/// The digits of a mantissa: their value without the zeros at the end, how many they are without
-/// those and the zeros in front, and how many zeros stand at the end.
-#[derive(Clone, Copy)]
-struct Mantissa {
-    value: u128,
-    digits: usize,
-    zeros: usize,
-}
-
-impl Mantissa {
-    fn of(whole: &[u16], part: &[u16]) -> Mantissa {
-        let none = Mantissa {
-            value: 0,
-            digits: 0,
-            zeros: 0,
-        };
-        none.with(whole).with(part)
-    }
-
-    fn with(self, digits: &[u16]) -> Mantissa {
-        let mut all = self;
-        for c in digits {
-            all = all.and(*c - ZERO);
-        }
-        all
-    }
-
-    fn and(self, digit: u16) -> Mantissa {
-        if digit == 0 {
-            if self.value == 0 {
-                self
-            } else {
-                Mantissa {
-                    zeros: self.zeros + 1,
-                    ..self
-                }
-            }
-        } else {
-            let digits = self.digits + self.zeros + 1;
-            let value = if digits > 30 {
-                1
-            } else {
-                self.value * 10u128.pow(self.zeros as u32 + 1) + digit as u128
-            };
-            Mantissa {
-                value,
-                digits,
-                zeros: 0,
-            }
-        }
-    }
-}
-
-const POWER_LIMIT: u128 = 1_000_000_000_000_000_000_000_000_000_000;
-
-fn power_of(digits: &[u16]) -> u128 {
-    let mut power = 0;
-    for c in digits {
-        power = (10 * power + (*c - ZERO) as u128).min(POWER_LIMIT);
-    }
-    power
 }
