@@ -131,3 +131,30 @@ pub digit_at : (ds : List ℕ) (i : ℕ) → AreDigits ds → i < length ds → 
 digit_at [] i d h = absurd (omega arith)
 digit_at (c ∷ cs) zero d h = d.0
 digit_at (c ∷ cs) (suc i) d h = digit_at cs i d.1 (omega arith)
+
+positive_factor : (a b : ℕ) → 0 < a * b → 0 < a
+positive_factor zero b h = absurd (omega arith)
+positive_factor (suc a) b h = omega arith
+
+number_after_from : (n : ℕ) (ds : List ℕ) → n ≤ number_after n ds
+number_after_from n [] = omega arith
+number_after_from n (d ∷ ds) = omega (arith, number_after_from (10 * n + (d - 48)) ds)
+
+-- digits that begin with another than 0 write another number than 0
+leading_above : (ds : List ℕ) → AreDigits ds → 0 < length (without_leading ds) → 0 < number (without_leading ds)
+leading_above [] d h = absurd (omega arith)
+leading_above (c ∷ cs) d h = elim (eqb_tells c 48) [
+    inl t ↦ rw (leading-zero c cs t.0) (leading_above cs d.1 (rw (leading-zero c cs t.0) at h))
+    | inr t ↦ rw (leading-other c cs t.0) (let low = d.0.low in let ne = t.1 in omega (arith, number_after_from (10 * 0 + (c - 48)) cs))
+  ]
+
+-- the kept digits write another number than 0, where there are any
+pub kept_above : (ds : List ℕ) → AreDigits ds → 0 < length (without_trailing (without_leading ds)) → 0 < number (without_trailing (without_leading ds))
+kept_above ds d h =
+    let s = without_leading ds in
+    let above = leading_above ds d (omega (arith, length-trailing s)) in
+    positive_factor (number (without_trailing s)) (10 ^ (length s - length (without_trailing s))) (let e = number-trailing s in omega arith)
+
+pub digits_both : (xs ys : List ℕ) → AreDigits xs → AreDigits ys → AreDigits (xs ++ ys)
+digits_both [] ys d e = e
+digits_both (x ∷ xs) ys d e = (d.0, digits_both xs ys d.1 e)

@@ -1,4 +1,6 @@
 pub mod Digits
+pub mod Exponents
+pub mod Judged
 pub mod Mantissas
 pub mod Norms
 pub mod Spans

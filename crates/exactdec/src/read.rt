@@ -1,10 +1,10 @@
 //! Decimal words.
 
-ghost use Rattle.std.specs.Prelude.{◌≡◌, ◌==◌, ℕ, ℤ, pos, ◌+◌, ◌-◌, ◌^◌, ◌<◌, ◌≤◌, List, [], ◌++◌, length, take, drop, min, IfOk, IfErr, nat_lt};
+ghost use Rattle.std.specs.Prelude.{◌≡◌, ◌==◌, ℕ, ℤ, pos, ◌+◌, ◌-◌, ◌^◌, ◌<◌, ◌≤◌, ◌+ℤ◌, ◌-ℤ◌, Bool, true, false, List, [], ◌++◌, length, take, drop, IfOk, IfErr, MatchOption};
 ghost use Rattle.fixdec.specs.Decimal.{value};
 ghost use Rattle.fixdec.specs.Frac.{◌≈◌};
-ghost use Rattle.fixdec.specs.Word.{Parts as Written, Spells, written};
-ghost use Rattle.exactdec.specs.Reading.{IsAnswer, reading, judged, is_digit as is_digit_unit, is_sign, is_point, is_mark, unit_front, unit_after, digits_front, digits_after};
+ghost use Rattle.fixdec.specs.Word.{Parts as Written, Spells, AreDigits, written, signed as signed_number, number};
+ghost use Rattle.exactdec.specs.Reading.{IsAnswer, reading, judged, is_digit as is_digit_unit, is_sign, is_point, is_mark, unit_front, unit_after, digits_front, digits_after, is_readable};
 ghost use Rattle.exactdec.specs.Stages.{IsSplit, IsNotSplit, HasDigits, parts_of};
 
 use crate::mantissa::{Mantissa, ZERO, power_of, signed};
@@ -154,15 +154,37 @@ fn judge(parts: &Parts<'_>) -> Result<Dec, DecFault>
         return Err(DecFault::Digits);
     }
     if mantissa.kept == 0 {
-        return Ok(Dec::default());
+        return Ok(Dec { mant: 0, exp: 0 });
     }
-    let zeros = mantissa.seen - mantissa.kept;
-    let exp = signed(parts.power_sign, power_of(parts.power)) - parts.part.len() as i128 + zeros as i128;
-    if exp < -60 || exp > 30 {
+    let Some(exp) = exponent_of(parts, mantissa.seen - mantissa.kept) else {
         return Err(DecFault::Exponent);
-    }
+    };
     Ok(Dec {
         mant: signed(parts.sign, mantissa.value),
-        exp: exp as i32,
+        exp,
     })
+}
+
+/// The exponent where so many zeros are dropped at the end of the mantissa. None where it isn't
+/// from -60 to 30.
+fn exponent_of(parts: &Parts<'_>, zeros: usize) -> Option<i32>
+    requires { AreDigits parts.now.power.now }
+    ensures {
+        let exp = signed_number parts.now.power_sign.now (number parts.now.power.now) -ℤ pos (length parts.now.part.now) +ℤ pos zeros in
+        MatchOption result (is_readable exp ≡ false) (λ r. (r ≡ exp) × (is_readable exp ≡ true))
+    }
+{
+    let power = signed(parts.power_sign, power_of(parts.power));
+    let digits = parts.part.len();
+    readable(power - digits as i128 + zeros as i128)
+}
+
+/// The exponent, where it is from -60 to 30.
+fn readable(exp: i128) -> Option<i32>
+    ensures { MatchOption result (is_readable exp ≡ false) (λ r. (r ≡ exp) × (is_readable exp ≡ true)) }
+{
+    if exp < -60 || 30 < exp {
+        return None;
+    }
+    Some(exp as i32)
 }
