@@ -4,5 +4,6 @@ pub mod Judged
 pub mod Mantissas
 pub mod Norms
 pub mod Spans
+pub mod Splits
 pub mod Texts
 pub mod Zones

@@ -8,7 +8,7 @@ use Rattle.fixdec.specs.Word.{IsDigit, without_leading, without_trailing, number
 use Rattle.exactdec.specs.Mantissas.{IsKeptOf}
 use Rattle.exactdec.proofs.Digits.{leading-none, leading-some, leading-other, trailing-zero, trailing-other, number-push, number-trailing, length-trailing}
 
-nil_from_length : (ds : List ℕ) → length ds ≡ 0 → ds ≡ []
+pub nil_from_length : (ds : List ℕ) → length ds ≡ 0 → ds ≡ []
 nil_from_length [] h = refl
 nil_from_length (d ∷ ds) h = absurd (omega arith)
 

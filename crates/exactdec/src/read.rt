@@ -1,10 +1,10 @@
 //! Decimal words.
 
-ghost use Rattle.std.specs.Prelude.{◌≡◌, ◌==◌, ℕ, ℤ, pos, ◌+◌, ◌-◌, ◌^◌, ◌<◌, ◌≤◌, ◌+ℤ◌, ◌-ℤ◌, Bool, true, false, List, [], ◌++◌, length, take, drop, IfOk, IfErr, MatchOption};
+ghost use Rattle.std.specs.Prelude.{◌≡◌, ◌==◌, ℕ, ℤ, pos, ◌+◌, ◌-◌, ◌^◌, ◌<◌, ◌≤◌, ◌+ℤ◌, ◌-ℤ◌, Bool, true, false, List, [], ◌++◌, length, take, drop, IfOk, IfErr, MatchOption, nat_lt};
 ghost use Rattle.fixdec.specs.Decimal.{value};
 ghost use Rattle.fixdec.specs.Frac.{◌≈◌};
 ghost use Rattle.fixdec.specs.Word.{Parts as Written, Spells, AreDigits, written, signed as signed_number, number};
-ghost use Rattle.exactdec.specs.Reading.{IsAnswer, reading, judged, is_digit as is_digit_unit, is_sign, is_point, is_mark, unit_front, unit_after, digits_front, digits_after, is_readable};
+ghost use Rattle.exactdec.specs.Reading.{IsAnswer, reading, judged, is_digit as is_digit_unit, is_sign, is_point, is_mark, unit_front, unit_after, digits_front, digits_after, mantissa_front, is_readable};
 ghost use Rattle.exactdec.specs.Stages.{IsSplit, IsNotSplit, HasDigits, parts_of};
 
 use crate::mantissa::{Mantissa, ZERO, power_of, signed};
@@ -63,34 +63,92 @@ fn split(word: &[u16]) -> Result<Parts<'_>, DecFault>
     ensures found { IfOk result (λ p. IsSplit word.now (parts_of p)) }
     ensures fault { IfErr result (λ e. IsNotSplit word.now e) }
 {
+    let front = split_mantissa(word);
+    if !front.has_digits() {
+        return Err(not_number(word, front.rest));
+    }
+    let (mark, after) = split_mark(front.rest);
+    if mark.is_empty() {
+        if !front.rest.is_empty() {
+            return Err(not_number(word, front.rest));
+        }
+        return Ok(front.with_power(mark, mark));
+    }
+    let (sign, after) = split_sign(after);
+    let (power, after) = split_digits(after);
+    if power.is_empty() {
+        return Err(not_number(word, after));
+    }
+    if !after.is_empty() {
+        return Err(not_number(word, after));
+    }
+    Ok(front.with_power(sign, power))
+}
+
+/// The fault of a word that doesn't go on at its rest.
+fn not_number(word: &[u16], rest: &[u16]) -> DecFault
+    requires { length rest.now ≤ length word.now }
+    ensures { result ≡ DecFault.NotNumber (length word.now - length rest.now) }
+{
+    DecFault::NotNumber {
+        at: word.len() - rest.len(),
+    }
+}
+
+/// The parts of a mantissa in front of a word, and what follows them.
+#[derive(Clone, Copy)]
+struct Front<'a> {
+    sign: &'a [u16],
+    whole: &'a [u16],
+    part: &'a [u16],
+    rest: &'a [u16],
+}
+
+impl<'a> Front<'a> {
+    fn has_digits(&self) -> bool
+        ensures { result ≡ nat_lt 0 (length (self.now.whole.now ++ self.now.part.now)) }
+    {
+        !self.whole.is_empty() || !self.part.is_empty()
+    }
+
+    fn with_power(self, power_sign: &'a [u16], power: &'a [u16]) -> Parts<'a>
+        ensures { parts_of result ≡ record {
+            sign = self.entry.sign.now; whole = self.entry.whole.now; point = []; part = self.entry.part.now;
+            mark = []; power_sign = power_sign.now; power = power.now } }
+    {
+        Parts {
+            sign: self.sign,
+            whole: self.whole,
+            part: self.part,
+            power_sign,
+            power,
+        }
+    }
+}
+
+fn split_mantissa(word: &[u16]) -> Front<'_>
+    ensures sign { result.sign.now ≡ (mantissa_front word.now).parts.sign }
+    ensures whole { result.whole.now ≡ (mantissa_front word.now).parts.whole }
+    ensures part { result.part.now ≡ (mantissa_front word.now).parts.part }
+    ensures rest { result.rest.now ≡ (mantissa_front word.now).rest }
+    ensures within { length result.rest.now ≤ length word.now }
+{
     let (sign, rest) = split_sign(word);
     let (whole, rest) = split_digits(rest);
     let (_, rest) = split_point(rest);
     let (part, rest) = split_digits(rest);
-    let at = word.len() - rest.len();
-    if whole.is_empty() && part.is_empty() {
-        return Err(DecFault::NotNumber { at });
+    Front {
+        sign,
+        whole,
+        part,
+        rest,
     }
-    let (mark, after) = split_mark(rest);
-    if mark.is_empty() {
-        if !rest.is_empty() {
-            return Err(DecFault::NotNumber { at });
-        }
-        return Ok(Parts { sign, whole, part, power_sign: mark, power: mark });
-    }
-    let (power_sign, rest) = split_sign(after);
-    let (power, rest) = split_digits(rest);
-    if power.is_empty() || !rest.is_empty() {
-        return Err(DecFault::NotNumber {
-            at: word.len() - rest.len(),
-        });
-    }
-    Ok(Parts { sign, whole, part, power_sign, power })
 }
 
 fn split_sign(word: &[u16]) -> (&[u16], &[u16])
     ensures front { result.0.now ≡ unit_front is_sign word.now }
     ensures after { result.1.now ≡ unit_after is_sign word.now }
+    ensures within { length result.1.now ≤ length word.now }
 {
     match word {
         [PLUS | MINUS, ..] => word.split_at(1),
@@ -101,6 +159,7 @@ fn split_sign(word: &[u16]) -> (&[u16], &[u16])
 fn split_point(word: &[u16]) -> (&[u16], &[u16])
     ensures front { result.0.now ≡ unit_front is_point word.now }
     ensures after { result.1.now ≡ unit_after is_point word.now }
+    ensures within { length result.1.now ≤ length word.now }
 {
     match word {
         [POINT, ..] => word.split_at(1),
@@ -111,6 +170,7 @@ fn split_point(word: &[u16]) -> (&[u16], &[u16])
 fn split_mark(word: &[u16]) -> (&[u16], &[u16])
     ensures front { result.0.now ≡ unit_front is_mark word.now }
     ensures after { result.1.now ≡ unit_after is_mark word.now }
+    ensures within { length result.1.now ≤ length word.now }
 {
     match word {
         [CAPITAL_E | SMALL_E, ..] => word.split_at(1),
@@ -121,6 +181,7 @@ fn split_mark(word: &[u16]) -> (&[u16], &[u16])
 fn split_digits(word: &[u16]) -> (&[u16], &[u16])
     ensures front { result.0.now ≡ digits_front word.now }
     ensures after { result.1.now ≡ digits_after word.now }
+    ensures within { length result.1.now ≤ length word.now }
 {
     word.split_at(count_digits(word))
 }
