@@ -22,11 +22,11 @@ pub judged_long : (p : Parts) → 30 < length (significant p) → judged p ≡ E
 unfolding judged
 judged_long p h = rw (lt-ltb 30 (length (significant p)) h)
 
-kept-zero : (p : Parts) → length (significant p) ≡ 0 → kept p ≡ record { mant = pos 0; exp = pos 0 }
+pub kept-zero : (p : Parts) → length (significant p) ≡ 0 → kept p ≡ record { mant = pos 0; exp = pos 0 }
 unfolding kept
 kept-zero p h = elim (eqb_tells (length (significant p)) 0) [ inl t ↦ rw t.0 | inr t ↦ absurd (t.1 h) ]
 
-kept-some : (p : Parts) → 0 < length (significant p) → kept p ≡ record { mant = signed p.sign (number (significant p)); exp = exponent p }
+pub kept-some : (p : Parts) → 0 < length (significant p) → kept p ≡ record { mant = signed p.sign (number (significant p)); exp = exponent p }
 unfolding kept
 kept-some p h = elim (eqb_tells (length (significant p)) 0) [ inl t ↦ let e = t.1 in absurd (omega arith) | inr t ↦ rw t.0 ]
 
