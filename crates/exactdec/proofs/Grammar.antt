@@ -166,3 +166,7 @@ grammar_of_whole w h =
           }
       ]
     ]
+
+-- a word has its parts in one way
+pub one_way : (w : List ℕ) (p q : Parts) → Spells w p → Spells w q → p ≡ q
+one_way w p q h k = ap (λ (s : Split). s.parts) (sym (split_of_grammar w p h) ∙ split_of_grammar w q k)

@@ -4,7 +4,7 @@ use Rattle.std.proofs.Math.Nat.{zero-mul}
 use Rattle.std.proofs.lemmas.Bool.{cases_Bool, cases_lt, lt-ltb, le-ltb}
 use Rattle.std.proofs.lemmas.Bool.Decides.{eqb_tells}
 use Rattle.std.proofs.lemmas.Int.{ints}
-use Rattle.std.specs.Prelude.{Result, ◌≤ℤ◌, ◌+ℤ◌, ◌-ℤ◌, ◌*ℤ◌, ◌==◌, nat_lt, neg_ℤ, if◌then◌else◌}
+use Rattle.std.specs.Prelude.{Result, IfOk, ◌≤ℤ◌, ◌+ℤ◌, ◌-ℤ◌, ◌*ℤ◌, ◌==◌, nat_lt, neg_ℤ, if◌then◌else◌}
 use Rattle.fixdec.specs.Decimal.{Decimal, value, ten_power}
 use Rattle.fixdec.specs.Frac.{Frac, whole, neg_Q, ◌≈◌, ◌*Q◌}
 use Rattle.fixdec.specs.FracLaws.{≈_refl, ≈_sym, ≈_trans}
@@ -14,6 +14,7 @@ use Rattle.fixdec.specs.Linear.{linear, fact, no_fact, reads}
 use Rattle.fixdec.specs.PowerLaws.{whole-mul, value-times, value-zero}
 use Rattle.fixdec.specs.Word.{Parts, AreDigits, Spells, IsWord, spelling, digits, from_first, significant, kept, written, signed, number, without_leading, without_trailing, IsReadable}
 use Rattle.exactdec.specs.Reading.{IsAnswer, IsAccepted, IsExponentFault, IsNotNumber, is_readable, Split, split, is_whole, judged, reading}
+use Rattle.exactdec.specs.Stages.{bare, IsSplit, IsNotSplit, HasDigits}
 use Rattle.exactdec.specs.declared.read.DecFault.{DecFault}
 use Rattle.exactdec.specs.declared.read.DecFault.TheVariants.{NotNumber, Digits, Exponent}
 use Rattle.exactdec.proofs.Digits.{number-leading, number-trailing}
@@ -111,3 +112,36 @@ reading_value w p d h r =
     let parts : (split w).parts ≡ p = ap (λ (s : Split). s.parts) (split_of_grammar w p h) in
     let judged_is : judged p ≡ Ok d = ap judged (sym parts) ∙ sym (reading-whole w (whole_of_grammar w p h)) ∙ r in
     subst (λ (x : Decimal). value x ≈ value (written p)) (sym (judged-ok p d judged_is)) (value-kept p)
+
+abbrev fault : DecFault → Result Decimal DecFault
+fault e = Err e
+
+-- a word that isn't taken apart
+pub reading_fault : (w : List ℕ) (e : DecFault) → IsNotSplit w e → Err e ≡ reading w
+reading_fault w e h = ap fault h.place ∙ sym (reading-other w h.whole)
+
+judged-bare : (p : Parts) → judged (bare p) ≡ judged p
+unfolding judged kept
+judged-bare p = refl
+
+-- a word that is
+pub reading_parts : (w : List ℕ) (p : Parts) → IsSplit w p → judged p ≡ reading w
+reading_parts w p h = ap judged h.parts ∙ judged-bare (split w).parts ∙ sym (reading-whole w h.whole)
+
+-- its parts are digits
+pub parts_digits : (w : List ℕ) (p : Parts) → IsSplit w p → HasDigits p
+parts_digits w p h =
+    let g = (grammar_of_whole w h.whole).grammatical in
+    subst HasDigits (sym h.parts) (record {
+      whole = g.mantissa.whole;
+      part = g.mantissa.part;
+      power = elim g.power [ inl n ↦ subst AreDigits (sym n.digits) tt | inr q ↦ q.digits ];
+    })
+
+-- the clauses of what is read
+pub answer_of : (w : List ℕ) (r : Result Decimal DecFault) → r ≡ reading w → IsAnswer w r
+answer_of w r h = subst (λ (x : Result Decimal DecFault). IsAnswer w x) (sym h) (reading_answer w)
+
+pub value_of : (w : List ℕ) (r : Result Decimal DecFault) → r ≡ reading w → IfOk r (λ d. (p : Parts) → Spells w p → value d ≈ value (written p))
+value_of w (Ok d) h = λ p s. reading_value w p d s (sym h)
+value_of w (Err e) h = tt

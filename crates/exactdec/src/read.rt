@@ -42,6 +42,12 @@ pub fn read(word: &[u16]) -> Result<Dec, DecFault>
     judge(&parts)
 }
 
+/// A word has its parts in one way only.
+pub fn one_spelling()
+    ensures { (word : List ℕ) (p q : Written) → Spells word p → Spells word q → p ≡ q }
+{
+}
+
 const PLUS: u16 = 43;
 const MINUS: u16 = 45;
 const POINT: u16 = 46;
