@@ -1,4 +1,13 @@
+pub mod Cuts
+pub mod Digits
+pub mod Exponents
+pub mod Grammar
+pub mod Judged
+pub mod Mantissas
 pub mod Norms
+pub mod Places
+pub mod Readings
 pub mod Spans
+pub mod Splits
 pub mod Texts
 pub mod Zones

@@ -1,1 +1,3 @@
+pub mod Mantissas
 pub mod Reading
+pub mod Stages

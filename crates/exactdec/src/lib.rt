@@ -2,6 +2,7 @@
 //! semi-diameter.
 #![tactic(auto)]
 
+mod mantissa;
 pub mod print;
 pub mod read;
 pub mod scale;

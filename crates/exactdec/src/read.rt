@@ -1,11 +1,13 @@
 //! Decimal words.
 
-ghost use Rattle.std.specs.Prelude.{◌≡◌, ◌==◌, ℕ, ℤ, pos, ◌+◌, ◌-◌, ◌^◌, ◌<◌, ◌≤◌, ◌≤ℤ◌, ◌||◌, neg_ℤ, List, [], ◌++◌, length, min, IfOk, IsOk, IfErr, IsTrue, ◌↔◌};
+ghost use Rattle.std.specs.Prelude.{◌≡◌, ◌==◌, ℕ, ℤ, pos, ◌+◌, ◌-◌, ◌^◌, ◌<◌, ◌≤◌, ◌+ℤ◌, ◌-ℤ◌, Bool, true, false, List, [], ◌++◌, length, take, drop, IfOk, IfErr, MatchOption, nat_lt};
 ghost use Rattle.fixdec.specs.Decimal.{value};
 ghost use Rattle.fixdec.specs.Frac.{◌≈◌};
-ghost use Rattle.fixdec.specs.Word.{Parts as Written, Spells, written, signed, number};
-ghost use Rattle.exactdec.specs.Reading.{IsAnswer, reading, split, judged, is_digit, is_sign, is_point, is_mark, unit_front, unit_after, digits_front, digits_after};
+ghost use Rattle.fixdec.specs.Word.{Parts as Written, Spells, AreDigits, written, signed as signed_number, number};
+ghost use Rattle.exactdec.specs.Reading.{IsAnswer, reading, judged, is_digit as is_digit_unit, is_sign, is_point, is_mark, unit_front, unit_after, digits_front, digits_after, mantissa_front, is_readable};
+ghost use Rattle.exactdec.specs.Stages.{IsSplit, IsNotSplit, HasDigits, parts_of};
 
+use crate::mantissa::{Mantissa, ZERO, power_of, signed};
 use fixdec::dec::Dec;
 
 /// Why a word isn't read.
@@ -36,26 +38,25 @@ pub fn read(word: &[u16]) -> Result<Dec, DecFault>
     // Whatever zeros it is written with, the value is mantissa times power of ten.
     ensures value { IfOk result (λ d. (p : Written) → Spells word.now p → value d ≈ value (written p)) }
 {
-    let parts = split_word(word)?;
+    let parts = split(word)?;
     judge(&parts)
 }
 
+/// A word has its parts in one way only.
+pub fn one_spelling()
+    ensures { (word : List ℕ) (p q : Written) → Spells word p → Spells word q → p ≡ q }
+{
+}
+
 const PLUS: u16 = 43;
-
 const MINUS: u16 = 45;
-
 const POINT: u16 = 46;
-
-const ZERO: u16 = 48;
-
 const NINE: u16 = 57;
-
 const CAPITAL_E: u16 = 69;
-
 const SMALL_E: u16 = 101;
 
 /// The parts of a word that its value is made of.
-#[derive(Drop)]
+#[derive(Clone, Copy)]
 struct Parts<'a> {
     sign: &'a [u16],
     whole: &'a [u16],
@@ -64,50 +65,96 @@ struct Parts<'a> {
     power: &'a [u16],
 }
 
-fn split_word(word: &[u16]) -> Result<Parts<'_>, DecFault> {
+fn split(word: &[u16]) -> Result<Parts<'_>, DecFault>
+    ensures found { IfOk result (λ p. IsSplit word.now (parts_of p)) }
+    ensures fault { IfErr result (λ e. IsNotSplit word.now e) }
+{
+    let front = split_mantissa(word);
+    if !front.has_digits() {
+        return Err(not_number(word, front.rest));
+    }
+    let (mark, after) = split_mark(front.rest);
+    if mark.is_empty() {
+        if !front.rest.is_empty() {
+            return Err(not_number(word, front.rest));
+        }
+        return Ok(front.with_power(mark, mark));
+    }
+    let (sign, after) = split_sign(after);
+    let (power, after) = split_digits(after);
+    if power.is_empty() {
+        return Err(not_number(word, after));
+    }
+    if !after.is_empty() {
+        return Err(not_number(word, after));
+    }
+    Ok(front.with_power(sign, power))
+}
+
+/// The fault of a word that doesn't go on at its rest.
+fn not_number(word: &[u16], rest: &[u16]) -> DecFault
+    requires { length rest.now ≤ length word.now }
+    ensures { result ≡ DecFault.NotNumber (length word.now - length rest.now) }
+{
+    DecFault::NotNumber {
+        at: word.len() - rest.len(),
+    }
+}
+
+/// The parts of a mantissa in front of a word, and what follows them.
+#[derive(Clone, Copy)]
+struct Front<'a> {
+    sign: &'a [u16],
+    whole: &'a [u16],
+    part: &'a [u16],
+    rest: &'a [u16],
+}
+
+impl<'a> Front<'a> {
+    fn has_digits(&self) -> bool
+        ensures { result ≡ nat_lt 0 (length (self.now.whole.now ++ self.now.part.now)) }
+    {
+        !self.whole.is_empty() || !self.part.is_empty()
+    }
+
+    fn with_power(self, power_sign: &'a [u16], power: &'a [u16]) -> Parts<'a>
+        ensures { parts_of result ≡ record {
+            sign = self.entry.sign.now; whole = self.entry.whole.now; point = []; part = self.entry.part.now;
+            mark = []; power_sign = power_sign.now; power = power.now } }
+    {
+        Parts {
+            sign: self.sign,
+            whole: self.whole,
+            part: self.part,
+            power_sign,
+            power,
+        }
+    }
+}
+
+fn split_mantissa(word: &[u16]) -> Front<'_>
+    ensures sign { result.sign.now ≡ (mantissa_front word.now).parts.sign }
+    ensures whole { result.whole.now ≡ (mantissa_front word.now).parts.whole }
+    ensures part { result.part.now ≡ (mantissa_front word.now).parts.part }
+    ensures rest { result.rest.now ≡ (mantissa_front word.now).rest }
+    ensures within { length result.rest.now ≤ length word.now }
+{
     let (sign, rest) = split_sign(word);
     let (whole, rest) = split_digits(rest);
     let (_, rest) = split_point(rest);
     let (part, rest) = split_digits(rest);
-    if whole.is_empty() && part.is_empty() {
-        return Err(DecFault::NotNumber {
-            at: word.len() - rest.len(),
-        });
-    }
-    let (mark, rest) = split_mark(rest);
-    if mark.is_empty() {
-        if !rest.is_empty() {
-            return Err(DecFault::NotNumber {
-                at: word.len() - rest.len(),
-            });
-        }
-        return Ok(Parts {
-            sign,
-            whole,
-            part,
-            power_sign: mark,
-            power: mark,
-        });
-    }
-    let (power_sign, rest) = split_sign(rest);
-    let (power, rest) = split_digits(rest);
-    if power.is_empty() || !rest.is_empty() {
-        return Err(DecFault::NotNumber {
-            at: word.len() - rest.len(),
-        });
-    }
-    Ok(Parts {
+    Front {
         sign,
         whole,
         part,
-        power_sign,
-        power,
-    })
+        rest,
+    }
 }
 
 fn split_sign(word: &[u16]) -> (&[u16], &[u16])
     ensures front { result.0.now ≡ unit_front is_sign word.now }
     ensures after { result.1.now ≡ unit_after is_sign word.now }
+    ensures within { length result.1.now ≤ length word.now }
 {
     match word {
         [PLUS | MINUS, ..] => word.split_at(1),
@@ -118,6 +165,7 @@ fn split_sign(word: &[u16]) -> (&[u16], &[u16])
 fn split_point(word: &[u16]) -> (&[u16], &[u16])
     ensures front { result.0.now ≡ unit_front is_point word.now }
     ensures after { result.1.now ≡ unit_after is_point word.now }
+    ensures within { length result.1.now ≤ length word.now }
 {
     match word {
         [POINT, ..] => word.split_at(1),
@@ -128,6 +176,7 @@ fn split_point(word: &[u16]) -> (&[u16], &[u16])
 fn split_mark(word: &[u16]) -> (&[u16], &[u16])
     ensures front { result.0.now ≡ unit_front is_mark word.now }
     ensures after { result.1.now ≡ unit_after is_mark word.now }
+    ensures within { length result.1.now ≤ length word.now }
 {
     match word {
         [CAPITAL_E | SMALL_E, ..] => word.split_at(1),
@@ -138,104 +187,71 @@ fn split_mark(word: &[u16]) -> (&[u16], &[u16])
 fn split_digits(word: &[u16]) -> (&[u16], &[u16])
     ensures front { result.0.now ≡ digits_front word.now }
     ensures after { result.1.now ≡ digits_after word.now }
+    ensures within { length result.1.now ≤ length word.now }
 {
-    let mut count = 0;
-    for c in word {
-        if *c < ZERO || *c > NINE {
-            return word.split_at(count);
-        }
-        count += 1;
-    }
-    word.split_at(count)
+    word.split_at(count_digits(word))
 }
 
-fn judge(parts: &Parts<'_>) -> Result<Dec, DecFault> {
+/// How many digits the word begins with.
+fn count_digits(word: &[u16]) -> usize
+    ensures front { take result word.now ≡ digits_front word.now }
+    ensures after { drop result word.now ≡ digits_after word.now }
+    ensures within { result ≤ length word.now }
+{
+    for (i, c) in word.iter().enumerate() {
+        if !is_digit(*c) {
+            return i;
+        }
+    }
+    word.len()
+}
+
+fn is_digit(c: u16) -> bool
+    ensures { result ≡ is_digit_unit c }
+{
+    ZERO <= c && c <= NINE
+}
+
+fn judge(parts: &Parts<'_>) -> Result<Dec, DecFault>
+    requires { HasDigits (parts_of parts.now) }
+    ensures { result ≡ judged (parts_of parts.now) }
+{
     let mantissa = Mantissa::of(parts.whole, parts.part);
-    if mantissa.digits > 30 {
+    if mantissa.kept > 30 {
         return Err(DecFault::Digits);
     }
-    if mantissa.value == 0 {
-        return Ok(Dec::default());
+    if mantissa.kept == 0 {
+        return Ok(Dec { mant: 0, exp: 0 });
     }
-    let exp = signed(parts.power_sign, power_of(parts.power)) - parts.part.len() as i128
-        + mantissa.zeros as i128;
-    if exp < -60 || exp > 30 {
+    let Some(exp) = exponent_of(parts, mantissa.seen - mantissa.kept) else {
         return Err(DecFault::Exponent);
-    }
+    };
     Ok(Dec {
         mant: signed(parts.sign, mantissa.value),
-        exp: exp as i32,
+        exp,
     })
 }
 
-fn signed(sign: &[u16], size: u128) -> i128
-    requires { size < 2 ^ 127 }
+/// The exponent where so many zeros are dropped at the end of the mantissa. None where it isn't
+/// from -60 to 30.
+fn exponent_of(parts: &Parts<'_>, zeros: usize) -> Option<i32>
+    requires { AreDigits parts.now.power.now }
+    ensures {
+        let exp = signed_number parts.now.power_sign.now (number parts.now.power.now) -ℤ pos (length parts.now.part.now) +ℤ pos zeros in
+        MatchOption result (is_readable exp ≡ false) (λ r. (r ≡ exp) × (is_readable exp ≡ true))
+    }
 {
-    match sign {
-        [MINUS, ..] => -(size as i128),
-        _ => size as i128,
-    }
+    let power = signed(parts.power_sign, power_of(parts.power));
+    let digits = parts.part.len();
+    readable(power - digits as i128 + zeros as i128)
 }
 
-/// The digits of a mantissa: their value without the zeros at the end, how many they are without
-/// those and the zeros in front, and how many zeros stand at the end.
-#[derive(Clone, Copy)]
-struct Mantissa {
-    value: u128,
-    digits: usize,
-    zeros: usize,
-}
-
-impl Mantissa {
-    fn of(whole: &[u16], part: &[u16]) -> Mantissa {
-        let none = Mantissa {
-            value: 0,
-            digits: 0,
-            zeros: 0,
-        };
-        none.with(whole).with(part)
+/// The exponent, where it is from -60 to 30.
+fn readable(exp: i128) -> Option<i32>
+    ensures { MatchOption result (is_readable exp ≡ false) (λ r. (r ≡ exp) × (is_readable exp ≡ true)) }
+{
+    if exp < -60 || 30 < exp {
+        return None;
     }
-
-    fn with(self, digits: &[u16]) -> Mantissa {
-        let mut all = self;
-        for c in digits {
-            all = all.and(*c - ZERO);
-        }
-        all
-    }
-
-    fn and(self, digit: u16) -> Mantissa {
-        if digit == 0 {
-            if self.value == 0 {
-                self
-            } else {
-                Mantissa {
-                    zeros: self.zeros + 1,
-                    ..self
-                }
-            }
-        } else {
-            let digits = self.digits + self.zeros + 1;
-            let value = if digits > 30 {
-                1
-            } else {
-                self.value * 10u128.pow(self.zeros as u32 + 1) + digit as u128
-            };
-            Mantissa {
-                value,
-                digits,
-                zeros: 0,
-            }
-        }
-    }
-}
-
-const POWER_LIMIT: u128 = 1_000_000_000_000_000_000_000_000_000_000;
-
-fn power_of(digits: &[u16]) -> u128 {
-    let mut power = 0;
-    for c in digits {
-        power = (10 * power + (*c - ZERO) as u128).min(POWER_LIMIT);
-    }
-    power
+    Some(exp as i32)
 }

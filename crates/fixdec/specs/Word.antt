@@ -114,19 +114,19 @@ without_leading (c ∷ cs) = if c == 48 then without_leading cs else c ∷ cs
 unfoldable pub without_trailing : List ℕ → List ℕ
 without_trailing ds = reverse (without_leading (reverse ds))
 
+-- the digits from the first on that isn't 0
+abbrev pub from_first : Parts → List ℕ
+from_first p = without_leading (digits p)
+
 -- the digits that are kept: none for zero
-unfoldable pub significant : Parts → List ℕ
-significant p = without_trailing (without_leading (digits p))
+abbrev pub significant : Parts → List ℕ
+significant p = without_trailing (from_first p)
 
--- how many zeros the digits end with
-unfoldable pub trailing_zeros : List ℕ → ℕ
-trailing_zeros ds = length ds - length (without_trailing ds)
-
--- the decimal that is kept: no zeros in front or at the end, and zero has exponent 0
+-- the decimal that is kept: each zero that is dropped at the end adds one to the exponent, and zero has exponent 0
 unfoldable pub kept : Parts → Decimal
 kept p = if length (significant p) == 0 then record { mant = pos 0; exp = pos 0 } else record {
   mant = signed p.sign (number (significant p));
-  exp = signed p.power_sign (number p.power) -ℤ pos (length p.part) +ℤ pos (trailing_zeros (digits p));
+  exp = signed p.power_sign (number p.power) -ℤ pos (length p.part) +ℤ pos (length (from_first p) - length (significant p));
 }
 
 -- the exponents of the decimals that are read
