@@ -66,7 +66,7 @@ without_zero a e = by_lt_z {P = (pos 0 <ℤ a.lo) ⊎ (a.hi <ℤ pos 0)} a.hi (p
 -- ---- sizes
 pub least_size-le : (a : Ends) → least_size a ≤ greatest_size a
 least_size-le a = elim (holds_zero a) as (λ b. (if b then 0 else min (unsigned_abs a.lo) (unsigned_abs a.hi)) ≤ greatest_size a) [
-  true ↦ omega arith
+  | true ↦ omega arith
   | false ↦ omega arith
 ]
 

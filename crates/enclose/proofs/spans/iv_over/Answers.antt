@@ -21,8 +21,8 @@ unfolding iv_over
 returns-clause-exact c =
     rw (sym c.holds_zero.ensures ∙ c.if-holds_zero.false)
     (ends_at _ _ c.ends.ensures
-      (to_z-of_z w128 c.least_quotient.result (record { sfits = c.least_quotient.type_inv }) ∙ c.least_quotient.ensures)
-      (to_z-of_z w128 c.greatest_quotient.result (record { sfits = c.greatest_quotient.type_inv }) ∙ c.greatest_quotient.ensures))
+    (to_z-of_z w128 c.least_quotient.result (record { sfits = c.least_quotient.type_inv }) ∙ c.least_quotient.ensures)
+    (to_z-of_z w128 c.greatest_quotient.result (record { sfits = c.greatest_quotient.type_inv }) ∙ c.greatest_quotient.ensures))
 
 pub returns-then-holds_zero-clause-encloses : goal.returns-then-holds_zero-clause-encloses
 returns-then-holds_zero-clause-encloses c = λ u v q p r e. tt
