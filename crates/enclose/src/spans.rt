@@ -1,4 +1,9 @@
-//! Interval arithmetic on spans, at a scale that is a number of at most 15.
+//! Interval arithmetic on spans. At a scale, a number of at most 15, the raw number `v` stands for
+//! `v / 10^scale`.
+//!
+//! Each call encloses: what is computed from numbers of the arguments lies in the answer, whose
+//! ends are rounded outward. An answer is `Lost(Range)` exactly where one of its ends would pass
+//! the cap.
 
 ghost use Rattle.std.specs.Prelude.{◌≡◌, false, ℕ, ℤ, pos, negsuc, ◌≤◌, ◌<◌, ◌≤ℤ◌, ◌+ℤ◌, ◌*ℤ◌, ◌*◌, ◌^◌, unsigned_abs};
 ghost use Rattle.fixdec.specs.Ends.{Ends, InCap};
@@ -43,20 +48,23 @@ fn outward(lo: i128, hi: i128, k: u32) -> Step<Span>
     ends(floor_div(lo, divisor), ceil_div(hi, divisor))
 }
 
-/// The sum.
+/// The sum, which is the same at each scale. `Lost(Range)` exactly where an end passes the cap.
 pub fn iv_plus(_scale: u32, a: Span, b: Span) -> Step<Span>
     requires { _scale ≤ 15 }
     ensures exact { result ≡ spec.iv_plus a b }
-    ensures encloses { (u v : Frac) → IsMember _scale a u → IsMember _scale b v → OnVal result (λ r. IsMember _scale r (u +Q v)) }
+    ensures encloses { (u v : Frac) → IsMember _scale a u → IsMember _scale b v
+        → OnVal result (λ r. IsMember _scale r (u +Q v)) }
 {
     ends(a.lo + b.lo, a.hi + b.hi)
 }
 
-/// The difference.
+/// The difference, which is the same at each scale. `Lost(Range)` exactly where an end passes the
+/// cap.
 pub fn iv_minus(_scale: u32, a: Span, b: Span) -> Step<Span>
     requires { _scale ≤ 15 }
     ensures exact { result ≡ spec.iv_minus a b }
-    ensures encloses { (u v : Frac) → IsMember _scale a u → IsMember _scale b v → OnVal result (λ r. IsMember _scale r (u -Q v)) }
+    ensures encloses { (u v : Frac) → IsMember _scale a u → IsMember _scale b v
+        → OnVal result (λ r. IsMember _scale r (u -Q v)) }
 {
     ends(a.lo - b.hi, a.hi - b.lo)
 }
@@ -106,11 +114,13 @@ fn greatest_product(a: Span, b: Span) -> i128
     )
 }
 
-/// The product.
+/// The product: the least and the greatest of the four products of ends, over the unit of the scale
+/// and rounded outward. `Lost(Range)` exactly where an end passes the cap.
 pub fn iv_times(scale: u32, a: Span, b: Span) -> Step<Span>
     requires { scale ≤ 15 }
     ensures exact { result ≡ spec.iv_times scale a b }
-    ensures encloses { (u v : Frac) → IsMember scale a u → IsMember scale b v → OnVal result (λ r. IsMember scale r (u *Q v)) }
+    ensures encloses { (u v : Frac) → IsMember scale a u → IsMember scale b v
+        → OnVal result (λ r. IsMember scale r (u *Q v)) }
 {
     outward(least_product(a, b), greatest_product(a, b), scale)
 }
@@ -139,10 +149,12 @@ fn greatest_size(a: Span) -> i128
     a.lo.abs().max(a.hi.abs())
 }
 
-/// The sizes of the numbers of a span.
+/// The sizes of the numbers of a span: from 0 where it holds 0, else from the smaller size of its
+/// ends, to the larger.
 pub fn iv_size(a: Span) -> Span
     ensures exact { result ≡ spec.iv_size a }
-    ensures encloses { (scale : ℕ) (u : Frac) → IsMember scale a u → IsMember scale result (spec.size u) }
+    ensures encloses { (scale : ℕ) (u : Frac) → IsMember scale a u
+        → IsMember scale result (spec.size u) }
 {
     Span {
         lo: least_size(a),
@@ -150,15 +162,20 @@ pub fn iv_size(a: Span) -> Span
     }
 }
 
-/// The square.
+/// The square: the squares of the least and the greatest size, over the unit of the scale and
+/// rounded outward. `Lost(Range)` exactly where an end passes the cap.
 pub fn iv_square(scale: u32, a: Span) -> Step<Span>
     requires { scale ≤ 15 }
     ensures exact { result ≡ spec.iv_square scale a }
     ensures encloses { (u : Frac) → IsMember scale a u → OnVal result (λ r. IsMember scale r (u *Q u)) }
 {
-    let least = least_size(a);
-    let greatest = greatest_size(a);
-    outward(product(least, least), product(greatest, greatest), scale)
+    let smallest = least_size(a);
+    let largest = greatest_size(a);
+    outward(
+        product(smallest, smallest),
+        product(largest, largest),
+        scale,
+    )
 }
 
 // the number times 10^k
@@ -201,7 +218,9 @@ fn greatest_quotient(scale: u32, a: Span, b: Span) -> i128
     )
 }
 
-/// The quotient. Lost by `Zero` exactly where `b` holds 0.
+/// The quotient: the least and the greatest of the four quotients of ends, times the unit of the
+/// scale and rounded outward. `Lost(Zero)` exactly where `b` holds 0, else `Lost(Range)` exactly
+/// where an end passes the cap.
 pub fn iv_over(scale: u32, a: Span, b: Span) -> Step<Span>
     requires { scale ≤ 15 }
     ensures exact { result ≡ spec.iv_over scale a b }
@@ -214,7 +233,7 @@ pub fn iv_over(scale: u32, a: Span, b: Span) -> Step<Span>
     ends(least_quotient(scale, a, b), greatest_quotient(scale, a, b))
 }
 
-// z or 0, whichever is greater, in units of the square of one raw number
+// the greater of z and 0, times the unit of the scale
 fn radicand(scale: u32, z: i128) -> u128
     requires scale { scale ≤ 15 }
     requires bound { InCap z }
@@ -224,7 +243,8 @@ fn radicand(scale: u32, z: i128) -> u128
     raised(z.max(0), scale) as u128
 }
 
-/// The root that isn't negative. Empty exactly where every number of the span is below 0.
+/// The root that isn't negative, of the numbers of the span that aren't, its ends rounded outward.
+/// `Empty` exactly where every number of the span is below 0.
 pub fn iv_root(scale: u32, a: Span) -> Step<Span>
     requires { scale ≤ 15 }
     ensures exact { result ≡ spec.iv_root scale a }
@@ -239,7 +259,8 @@ pub fn iv_root(scale: u32, a: Span) -> Step<Span>
     ends(lo as i128, hi as i128)
 }
 
-/// The span with its ends moved outward by `e`, which is from 0 to the cap.
+/// The span with its ends moved outward by `e` raw units, `e` from 0 to the cap. `Lost(Range)`
+/// exactly where an end passes the cap.
 pub fn iv_widen(a: Span, e: i128) -> Step<Span>
     requires low { pos 0 ≤ℤ e }
     requires high { InCap e }
@@ -250,7 +271,8 @@ pub fn iv_widen(a: Span, e: i128) -> Step<Span>
     ends(a.lo - e, a.hi + e)
 }
 
-/// The span times `10^-k`, `k` from -6 to 6.
+/// The span times `10^-k`, `k` from -6 to 6: rounded outward where `k` is above 0, else exact.
+/// `Lost(Range)` exactly where an end passes the cap.
 pub fn iv_shift(a: Span, k: i32) -> Step<Span>
     requires low { negsuc 5 ≤ℤ k }
     requires high { k ≤ℤ pos 6 }
@@ -265,7 +287,7 @@ pub fn iv_shift(a: Span, k: i32) -> Step<Span>
     outward(a.lo, a.hi, k as u32)
 }
 
-/// The numbers that `a` and `s` have in common. Empty exactly where there is none.
+/// The numbers that `a` and `s` have in common. `Empty` exactly where there is none.
 pub fn iv_clip(a: Span, s: Span) -> Step<Span>
     ensures exact { result ≡ spec.iv_clip a s }
     ensures encloses { (scale : ℕ) (u : Frac) → IsMember scale a u → IsMember scale s u

@@ -1,7 +1,7 @@
-use Rattle.std.proofs.Common.{◌≡◌, ◌∙◌, false, refl, sym}
+use Rattle.std.proofs.Common.{◌∙◌, refl, sym}
 use Rattle.std.specs.Int.{w128}
 use Rattle.std.proofs.lemmas.Int.{to_z-of_z}
-use Rattle.fixdec.specs.Interval.{holds_zero, iv_over}
+use Rattle.fixdec.specs.Interval.{iv_over}
 use Rattle.enclose.proofs.EndsLaws.{ends_at}
 use Rattle.enclose.proofs.Quotients.{quotients_in_order}
 use Rattle.enclose.specs.IntervalLaws.{iv_over-encloses}
