@@ -1,14 +1,12 @@
 -- What a clip answers.
-use Rattle.std.proofs.Common.{◌≡◌, ◌∙◌, Bool, true, false, ◌&&◌, ap, sym, subst, refl, arith}
-use Rattle.std.specs.Prelude.{ℤ, nat_le, int_le, unsigned_abs, if◌then◌else◌}
+use Rattle.std.proofs.Common.{◌≡◌, ◌∙◌, true, false, sym, refl, arith}
+use Rattle.std.specs.Prelude.{ℤ, int_le, if◌then◌else◌}
 use Rattle.std.specs.Int.{int_min, int_max}
 use Rattle.std.proofs.lemmas.Bool.Decides.{nat_tests}
-use Rattle.std.proofs.lemmas.Int.{ints, clamps}
 use Rattle.fixdec.specs.Ends.{Ends, InCap}
 use Rattle.fixdec.specs.Interval.{ends, fits_cap, iv_clip}
 use Rattle.fixdec.specs.declared.step.Step.{Step}
-use Rattle.fixdec.specs.declared.step.Step.TheVariants.{Val, Empty, Lost}
-use Rattle.fixdec.specs.declared.step.Why.TheVariants.{Range}
+use Rattle.fixdec.specs.declared.step.Step.TheVariants.{Val, Empty}
 
 within : (z : ℤ) → InCap z → fits_cap z ≡ true
 within z h = grind (arith, nat_tests)

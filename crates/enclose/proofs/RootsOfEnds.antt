@@ -11,7 +11,7 @@ use Rattle.fixdec.specs.declared.step.Step.TheVariants.{Empty}
 
 le_of_square : (x y : ℕ) → x * x ≤ y * y → x ≤ y
 le_of_square x y h = elim (cases_lt y x) [
-  inl l ↦ (let g : suc y * suc y ≤ x * x = mul-le-mul l l in absurd (omega arith))
+  | inl l ↦ (let g : suc y * suc y ≤ x * x = mul-le-mul l l in absurd (omega arith))
   | inr l ↦ l
 ]
 

@@ -1,5 +1,5 @@
 -- How large raw numbers and their products are, and that they fit.
-use Rattle.std.proofs.Common.{ℕ, ◌≡◌, ◌≤◌, ◌<◌, ◌^◌, ◌*◌, arith, ap, sym, ◌∙◌, lit<}
+use Rattle.std.proofs.Common.{ℕ, ◌≡◌, ◌≤◌, ◌^◌, ◌*◌, arith, ap, ◌∙◌}
 use Rattle.std.specs.Prelude.{ℤ, pos, ◌*ℤ◌, unsigned_abs, FitsSigned}
 use Rattle.std.specs.Int.{w128, cast_signed, cast_unsigned, int_min, int_max}
 use Rattle.std.proofs.Math.Nat.{pow-le-pow_right}

@@ -1,8 +1,7 @@
 -- What the ends of the operations are: below and above what they bound.
-use Rattle.std.proofs.Common.{◌≡◌, ℕ, ◌*◌, ◌^◌, ◌≤◌, Bool, true, false, min, max, refl, arith, ◌⊎◌, inl, inr}
+use Rattle.std.proofs.Common.{◌≡◌, ℕ, ◌*◌, ◌^◌, ◌≤◌, true, false, min, refl, arith, ◌⊎◌, inl, inr}
 use Rattle.std.proofs.lemmas.Int.{ints, clamps, by_lt_z}
-use Rattle.std.specs.Prelude.{ℤ, pos, negsuc, ◌*ℤ◌, ◌≤ℤ◌, ◌<ℤ◌, int_le, unsigned_abs, if◌then◌else◌}
-use lib.IntN.{neg_ℤ}
+use Rattle.std.specs.Prelude.{ℤ, pos, negsuc, ◌*ℤ◌, ◌≤ℤ◌, ◌<ℤ◌, unsigned_abs, if◌then◌else◌}
 use native.Mathlib.Nat.{mul-le-mul}
 use Rattle.std.proofs.lemmas.Bool.{cond_both}
 use Rattle.fixdec.specs.Ends.{Ends}
@@ -66,7 +65,7 @@ without_zero a e = by_lt_z {P = (pos 0 <ℤ a.lo) ⊎ (a.hi <ℤ pos 0)} a.hi (p
 -- ---- sizes
 pub least_size-le : (a : Ends) → least_size a ≤ greatest_size a
 least_size-le a = elim (holds_zero a) as (λ b. (if b then 0 else min (unsigned_abs a.lo) (unsigned_abs a.hi)) ≤ greatest_size a) [
-  true ↦ omega arith
+  | true ↦ omega arith
   | false ↦ omega arith
 ]
 

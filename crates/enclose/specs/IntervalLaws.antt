@@ -1,13 +1,13 @@
 -- Interval arithmetic encloses: what is computed from intervals holds what is computed from their members.
-use Rattle.std.proofs.Common.{◌≡◌, ◌∙◌, ℕ, suc, ◌*◌, ◌^◌, Bool, true, false, ◌&&◌, refl, arith, ◌⊎◌, inl, inr}
+use Rattle.std.proofs.Common.{ℕ, suc, ◌*◌, ◌^◌, true, false, ◌&&◌, arith, ◌⊎◌, inl, inr}
 use Rattle.std.proofs.lemmas.Bool.{cond_both}
-use Rattle.std.proofs.lemmas.Int.{ints, clamps}
-use Rattle.std.specs.Prelude.{ℤ, pos, negsuc, ◌+ℤ◌, ◌-ℤ◌, ◌*ℤ◌, ◌≤ℤ◌, ◌<ℤ◌, int_le, int_lt, if◌then◌else◌}
+use Rattle.std.proofs.lemmas.Int.{ints}
+use Rattle.std.specs.Prelude.{ℤ, pos, negsuc, ◌≤ℤ◌, int_le, int_lt, if◌then◌else◌}
 use Rattle.std.specs.Int.{int_min, int_max}
 use Rattle.fixdec.specs.Ends.{Ends}
 use Rattle.fixdec.specs.Frac.{Frac, ◌≈◌, ◌≤Q◌, ◌+Q◌, ◌*Q◌, ◌-Q◌, neg_Q, whole}
 use Rattle.fixdec.specs.FracLaws.{≈_refl}
-use Rattle.fixdec.specs.Interval.{unit, fits_cap, ends, least_product, greatest_product, holds_zero, least_size, greatest_size, least_quotient, greatest_quotient, positive_part, iv_plus, iv_minus, iv_times, iv_square, iv_over, iv_root, iv_widen, iv_shift, iv_clip, iv_size, size}
+use Rattle.fixdec.specs.Interval.{fits_cap, ends, holds_zero, least_quotient, greatest_quotient, positive_part, iv_plus, iv_minus, iv_times, iv_square, iv_over, iv_root, iv_widen, iv_shift, iv_clip, iv_size, size}
 use Rattle.fixdec.specs.Member.{IsMember, IsNear, IsShifted, Symbols}
 use Rattle.fixdec.specs.MemberLaws.{unit_pos, ends_in_order, plus_law, minus_law, widen_law, divide_law, multiply_law, clip_law, symbol_law}
 use Rattle.fixdec.specs.Order.{nn_in}
@@ -16,7 +16,6 @@ use Rattle.fixdec.specs.Quotients.{over_law}
 use Rattle.fixdec.specs.Root.{root, root_up_by}
 use Rattle.fixdec.specs.Roots.{holds_square, root_law}
 use Rattle.fixdec.specs.Steps.{OnVal}
-use Rattle.fixdec.specs.declared.step.Step.{Step}
 use Rattle.fixdec.specs.declared.step.Step.TheVariants.{Val, Empty, Lost}
 use Rattle.fixdec.specs.declared.step.Why.TheVariants.{Zero, Range}
 use Rattle.enclose.specs.EndLaws.{least_product_is, greatest_product_is, least_quotient_is, greatest_quotient_is, without_zero, least_size_is, greatest_size_is, root_low, root_high}

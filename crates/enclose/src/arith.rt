@@ -15,6 +15,7 @@ use fixdec::step::Step;
 pub trait Arith: Copy {
     /// The scale, at most 15.
     const SCALE: u32;
+
     ghost SCALE: { ℕ };
 
     /// What each operation answers.

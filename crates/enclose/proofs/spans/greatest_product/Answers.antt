@@ -12,10 +12,10 @@ returns-clause-value c =
     let size = greatest_product_size a.lo a.hi b.lo b.hi i.1 i.2 j.1 j.2 in
     rw (← c.a.view_is, ← c.b.view_is)
     (carried (greatest_at _ _ _ _ c.greatest.ensures
-      (product_at a.lo b.lo i.1 j.1 c.product.ensures.value)
-      (product_at a.lo b.hi i.1 j.2 c.product-2.ensures.value)
-      (product_at a.hi b.lo i.2 j.1 c.product-3.ensures.value)
-      (product_at a.hi b.hi i.2 j.2 c.product-4.ensures.value))
+    (product_at a.lo b.lo i.1 j.1 c.product.ensures.value)
+    (product_at a.lo b.hi i.1 j.2 c.product-2.ensures.value)
+    (product_at a.hi b.lo i.2 j.1 c.product-3.ensures.value)
+    (product_at a.hi b.hi i.2 j.2 c.product-4.ensures.value))
     (omega arith))
 
 pub returns-clause-bound : goal.returns-clause-bound

@@ -14,7 +14,7 @@ returns c =
     let bh = small_is c.b.inside.hi c.b.invariant.2 in
     rw (← c.a.view_is, ← c.b.view_is, to_z-of_z w128 c.greatest.result (record { sfits = c.greatest.type_inv }))
     (greatest_at _ _ _ _ c.greatest.ensures
-      (to_z-of_z w128 c.ceil_div.result (record { sfits = c.ceil_div.type_inv }) ∙ c.ceil_div.ensures.value ∙ (λ i. ceil (lo i) (bl i)))
-      (to_z-of_z w128 c.ceil_div-2.result (record { sfits = c.ceil_div-2.type_inv }) ∙ c.ceil_div-2.ensures.value ∙ (λ i. ceil (lo i) (bh i)))
-      (to_z-of_z w128 c.ceil_div-3.result (record { sfits = c.ceil_div-3.type_inv }) ∙ c.ceil_div-3.ensures.value ∙ (λ i. ceil (hi i) (bl i)))
-      (to_z-of_z w128 c.ceil_div-4.result (record { sfits = c.ceil_div-4.type_inv }) ∙ c.ceil_div-4.ensures.value ∙ (λ i. ceil (hi i) (bh i))))
+    (to_z-of_z w128 c.ceil_div.result (record { sfits = c.ceil_div.type_inv }) ∙ c.ceil_div.ensures.value ∙ (λ i. ceil (lo i) (bl i)))
+    (to_z-of_z w128 c.ceil_div-2.result (record { sfits = c.ceil_div-2.type_inv }) ∙ c.ceil_div-2.ensures.value ∙ (λ i. ceil (lo i) (bh i)))
+    (to_z-of_z w128 c.ceil_div-3.result (record { sfits = c.ceil_div-3.type_inv }) ∙ c.ceil_div-3.ensures.value ∙ (λ i. ceil (hi i) (bl i)))
+    (to_z-of_z w128 c.ceil_div-4.result (record { sfits = c.ceil_div-4.type_inv }) ∙ c.ceil_div-4.ensures.value ∙ (λ i. ceil (hi i) (bh i))))

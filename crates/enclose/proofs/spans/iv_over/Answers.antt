@@ -1,7 +1,7 @@
-use Rattle.std.proofs.Common.{◌≡◌, ◌∙◌, false, refl, sym}
+use Rattle.std.proofs.Common.{◌∙◌, refl, sym}
 use Rattle.std.specs.Int.{w128}
 use Rattle.std.proofs.lemmas.Int.{to_z-of_z}
-use Rattle.fixdec.specs.Interval.{holds_zero, iv_over}
+use Rattle.fixdec.specs.Interval.{iv_over}
 use Rattle.enclose.proofs.EndsLaws.{ends_at}
 use Rattle.enclose.proofs.Quotients.{quotients_in_order}
 use Rattle.enclose.specs.IntervalLaws.{iv_over-encloses}
@@ -21,8 +21,8 @@ unfolding iv_over
 returns-clause-exact c =
     rw (sym c.holds_zero.ensures ∙ c.if-holds_zero.false)
     (ends_at _ _ c.ends.ensures
-      (to_z-of_z w128 c.least_quotient.result (record { sfits = c.least_quotient.type_inv }) ∙ c.least_quotient.ensures)
-      (to_z-of_z w128 c.greatest_quotient.result (record { sfits = c.greatest_quotient.type_inv }) ∙ c.greatest_quotient.ensures))
+    (to_z-of_z w128 c.least_quotient.result (record { sfits = c.least_quotient.type_inv }) ∙ c.least_quotient.ensures)
+    (to_z-of_z w128 c.greatest_quotient.result (record { sfits = c.greatest_quotient.type_inv }) ∙ c.greatest_quotient.ensures))
 
 pub returns-then-holds_zero-clause-encloses : goal.returns-then-holds_zero-clause-encloses
 returns-then-holds_zero-clause-encloses c = λ u v q p r e. tt

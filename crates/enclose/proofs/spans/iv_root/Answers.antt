@@ -1,5 +1,5 @@
-use Rattle.std.proofs.Common.{◌≡◌, ◌∙◌, ◌*◌, ◌^◌, ◌≤◌, false, arith, ap, sym}
-use Rattle.std.specs.Prelude.{pos, ◌≤ℤ◌, int_lt}
+use Rattle.std.proofs.Common.{◌≡◌, ◌∙◌, ◌*◌, ◌^◌, arith, ap, sym}
+use Rattle.std.specs.Prelude.{pos, int_lt}
 use Rattle.std.specs.Int.{w128, cast_signed}
 use Rattle.std.proofs.lemmas.Int.{ints, to_z_pos}
 use Rattle.fixdec.specs.Interval.{positive_part}

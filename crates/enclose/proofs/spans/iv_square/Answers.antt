@@ -12,13 +12,13 @@ use Rattle.enclose.proofs.spans.iv_square.Goals as goal
 
 low : (c : goal.After-product-2) → cast_signed w128 (cast_unsigned w128 c.product.result) ≡ pos (least_size c.args.a * least_size c.args.a)
 low c =
-    let is = c.least_size-least.ensures in
-    product_at c.least_size-least.result c.least_size-least.result is.bound is.bound c.product.ensures.value ∙ (λ i. is.value i *ℤ is.value i)
+    let is = c.least_size-smallest.ensures in
+    product_at c.least_size-smallest.result c.least_size-smallest.result is.bound is.bound c.product.ensures.value ∙ (λ i. is.value i *ℤ is.value i)
 
 high : (c : goal.After-product-2) → cast_signed w128 (cast_unsigned w128 c.product-2.result) ≡ pos (greatest_size c.args.a * greatest_size c.args.a)
 high c =
-    let is = c.greatest_size-greatest.ensures in
-    product_at c.greatest_size-greatest.result c.greatest_size-greatest.result is.bound is.bound c.product-2.ensures.value ∙ (λ i. is.value i *ℤ is.value i)
+    let is = c.greatest_size-largest.ensures in
+    product_at c.greatest_size-largest.result c.greatest_size-largest.result is.bound is.bound c.product-2.ensures.value ∙ (λ i. is.value i *ℤ is.value i)
 
 pub outward-requires-clause-order : goal.outward-requires-clause-order
 outward-requires-clause-order c = let l = least_square-le c.args.a in rw (low c, high c) (omega (arith, ints))

@@ -14,7 +14,7 @@ returns c =
     let bh = small_is c.b.inside.hi c.b.invariant.2 in
     rw (← c.a.view_is, ← c.b.view_is, to_z-of_z w128 c.least.result (record { sfits = c.least.type_inv }))
     (least_at _ _ _ _ c.least.ensures
-      (to_z-of_z w128 c.floor_div.result (record { sfits = c.floor_div.type_inv }) ∙ c.floor_div.ensures.value ∙ (λ i. floor (lo i) (bl i)))
-      (to_z-of_z w128 c.floor_div-2.result (record { sfits = c.floor_div-2.type_inv }) ∙ c.floor_div-2.ensures.value ∙ (λ i. floor (lo i) (bh i)))
-      (to_z-of_z w128 c.floor_div-3.result (record { sfits = c.floor_div-3.type_inv }) ∙ c.floor_div-3.ensures.value ∙ (λ i. floor (hi i) (bl i)))
-      (to_z-of_z w128 c.floor_div-4.result (record { sfits = c.floor_div-4.type_inv }) ∙ c.floor_div-4.ensures.value ∙ (λ i. floor (hi i) (bh i))))
+    (to_z-of_z w128 c.floor_div.result (record { sfits = c.floor_div.type_inv }) ∙ c.floor_div.ensures.value ∙ (λ i. floor (lo i) (bl i)))
+    (to_z-of_z w128 c.floor_div-2.result (record { sfits = c.floor_div-2.type_inv }) ∙ c.floor_div-2.ensures.value ∙ (λ i. floor (lo i) (bh i)))
+    (to_z-of_z w128 c.floor_div-3.result (record { sfits = c.floor_div-3.type_inv }) ∙ c.floor_div-3.ensures.value ∙ (λ i. floor (hi i) (bl i)))
+    (to_z-of_z w128 c.floor_div-4.result (record { sfits = c.floor_div-4.type_inv }) ∙ c.floor_div-4.ensures.value ∙ (λ i. floor (hi i) (bh i))))

@@ -1,9 +1,7 @@
-use Rattle.std.proofs.Common.{◌^◌, arith, sym, ◌∙◌, ◌≤◌}
-use Rattle.std.specs.Prelude.{pos, ◌≤ℤ◌}
+use Rattle.std.proofs.Common.{◌^◌, arith, ◌≤◌}
 use Rattle.std.specs.Int.{w128}
 use Rattle.std.proofs.Math.Nat.{one-le-pow}
 use Rattle.std.proofs.lemmas.Int.{to_z-of_z}
-use Rattle.fixdec.specs.Rounding.{floor, ceil}
 use Rattle.enclose.proofs.Quotients.{floor_le_ceil}
 use Rattle.enclose.proofs.Sizes.{as_is, unit_is}
 use Rattle.enclose.proofs.spans.outward.Goals as goal
