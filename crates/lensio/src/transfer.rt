@@ -121,11 +121,11 @@ pub fn put<K: Sink>(out: &mut K, text: &[u8]) -> Result<(), Failed>
 {
     let mut rest = text;
     while !rest.is_empty() {
-        let count = out.write(rest)?;
-        if count == 0 {
+        let taken = out.write(rest)?;
+        if taken == 0 {
             return Err(Failed);
         }
-        rest = &rest[count..];
+        rest = &rest[taken..];
     }
     Ok(())
 }

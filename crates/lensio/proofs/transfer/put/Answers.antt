@@ -5,11 +5,11 @@ use Rattle.lensio.specs.Taken.{Takes, TakesFront}
 use Rattle.lensio.specs.TakenLaws.{TakesFront-rest, Takes-trans, take-plus}
 use Rattle.lensio.proofs.transfer.put.Goals as goal
 
-pub returns-in_err-count-clause-front : goal.returns-in_err-count-clause-front
-returns-in_err-count-clause-front g c =
+pub returns-in_err-taken-clause-front : goal.returns-in_err-taken-clause-front
+returns-in_err-taken-clause-front g c =
     let so_far = c.loop-rest.invariant.front in
     let p = err_from_is_err_and c.from_residual.result c.from_residual.ensures.1 in
-    let failed : TakesFront (g.K.Sink.taken c.loop-rest.out) (g.K.Sink.taken c.write.new.self) c.loop-rest.rest.now = c.in_err-count.ensures.some_front in
+    let failed : TakesFront (g.K.Sink.taken c.loop-rest.out) (g.K.Sink.taken c.write.new.self) c.loop-rest.rest.now = c.in_err-taken.ensures.some_front in
     rw p.1 (TakesFront-rest _ _ _ so_far.0 _ so_far.2 (subst (TakesFront _ _) so_far.1 failed))
 
 -- what is left of the rest behind a front
@@ -20,8 +20,8 @@ rest_behind n k rest text e =
 pub loop-rest-preserved : goal.loop-rest-preserved
 loop-rest-preserved g c =
     let so_far = c.loop-rest.invariant.front in
-    let count = c.in_ok-count.count in
-    let front : Takes (g.K.Sink.taken c.loop-rest.out) (g.K.Sink.taken c.write.new.self) (take count c.loop-rest.rest.now) = c.in_ok-count.ensures.front in
+    let count = c.in_ok-taken.taken in
+    let front : Takes (g.K.Sink.taken c.loop-rest.out) (g.K.Sink.taken c.write.new.self) (take count c.loop-rest.rest.now) = c.in_ok-taken.ensures.front in
     record {
       front = (
         so_far.0 + count,
