@@ -95,9 +95,9 @@ impl Search {
         let Some(tag) = word(line, 0) else {
             return Ok(());
         };
-        if tag == b"NM" {
+        if tag == b"NM".as_slice() {
             self.open(line, wanted)
-        } else if tag == b"CD" {
+        } else if tag == b"CD".as_slice() {
             self.coefficients(line)
         } else {
             Err(Unbuilt)

@@ -2,6 +2,5 @@
 #![tactic(auto)]
 
 mod catalogue;
-mod report;
 pub mod run;
 pub mod words;

@@ -1,23 +1,25 @@
 //! The top call: from the words and the files to the status and the text.
 
-ghost use Rattle.std.specs.Prelude.{◌≡◌, ◌→◌, ◌≤◌};
-ghost use Rattle.lensio.specs.Count.{Rose};
+ghost use Rattle.std.specs.Prelude.{◌≡◌};
 
 use crate::catalogue::{self, Unbuilt};
-use crate::report::{self, Line};
-use crate::words::{Command, command};
-use fixdec::dec::Dec;
-use fixdec::span::Span;
-use fixdec::step::Step;
+use crate::words::{Command, command_of};
 use enclose::arith::Arith;
 use enclose::iv::Iv;
 use exactdec::scale;
+use fixdec::dec::Dec;
+use fixdec::span::Span;
+use fixdec::step::Step;
 use lensio::shelf::Shelf;
 use lensio::sink::Sink;
 use lensio::transfer::{SlurpFault, put, slurp};
+use lensmodel::fault::CrossFault;
 use lensmodel::glass::{Glass, Medium};
 use lensmodel::name::Name;
-use lensmodel::status::Status;
+use lensmodel::status::{FileKind, Status};
+use lensreport::faults::{print_absent, print_cross_fault, print_read_fault, print_too_long, print_usage};
+use lensreport::index::print_index;
+use lensreport::pieces::Line;
 use sagform::index;
 use sagform::steps::Steps;
 use std::alloc::Global;
@@ -29,25 +31,61 @@ const INDEX_SCALE: u32 = 12;
 /// One, in units of the scale of an index.
 const ONE: i128 = 1_000_000_000_000;
 
-/// The bytes of a catalogue, or why there are none.
-fn file<F: Shelf>(alloc: Global, shelf: &mut F, name: &[u8], line: &mut Line) -> Result<Vec<u8>, Status> {
-    slurp(alloc, shelf, name).map_err(|fault| match fault {
-        SlurpFault::Absent => refuse(line, "absent agf\n", Status::Absent),
-        SlurpFault::Fault => refuse(line, "read fault agf\n", Status::ReadFault),
-        SlurpFault::TooLong => refuse(line, "too long agf\n", Status::TooLong),
-        SlurpFault::Memory => Status::Memory,
-    })
+/// How a call ends, and the text that is due.
+#[derive(Drop)]
+struct Answer {
+    status: Status,
+    text: Line,
 }
 
-/// Writes a fault line, and gives its status.
-fn refuse(line: &mut Line, words: &str, status: Status) -> Status {
-    report::text(line, words);
-    status
+impl Answer {
+    /// No text.
+    fn silent(status: Status) -> Answer {
+        Answer { status, text: Line::new() }
+    }
+}
+
+/// Why a catalogue gives no bytes.
+fn unread(fault: SlurpFault) -> Answer {
+    let mut text = Line::new();
+    let status = match fault {
+        SlurpFault::Absent => {
+            print_absent(FileKind::Agf, &mut text);
+            Status::Absent
+        }
+        SlurpFault::Fault => {
+            print_read_fault(FileKind::Agf, &mut text);
+            Status::ReadFault
+        }
+        SlurpFault::TooLong => {
+            print_too_long(FileKind::Agf, &mut text);
+            Status::TooLong
+        }
+        SlurpFault::Memory => Status::Memory,
+    };
+    Answer { status, text }
+}
+
+/// Files that don't fit together.
+fn crossed(fault: CrossFault) -> Answer {
+    let mut text = Line::new();
+    print_cross_fault(fault, &mut text);
+    Answer { status: Status::Refused, text }
+}
+
+/// A catalogue of a form that isn't read yet.
+fn unbuilt() -> Answer {
+    let mut text = Line::new();
+    text.push_str("refused agf unbuilt\n");
+    Answer { status: Status::Refused, text }
 }
 
 /// The index of a glass at scale 12, with the residual one unit; None where it isn't enclosed
 /// between 1 and 5.
 fn good_index(glass: Glass, wave: &Dec) -> Option<Span> {
+    if glass.formula != 1 && glass.formula != 2 {
+        return None;
+    }
     let Step::Val(wave) = scale::span(wave, INDEX_SCALE) else {
         return None;
     };
@@ -60,44 +98,48 @@ fn good_index(glass: Glass, wave: &Dec) -> Option<Span> {
     }
 }
 
-/// Answers `index`.
-fn answer_index(bytes: &[u8], glass: &Name, wave: &Dec, line: &mut Line) -> Status {
+/// Answers `index` over the bytes of a catalogue.
+fn answer_index(bytes: &[u8], glass: &Name, wave: &Dec) -> Answer {
     let found = match catalogue::find(bytes, glass) {
         Ok(Some(found)) => found,
-        Ok(None) => return refuse(line, "refused cross no-glass surface 0\n", Status::Refused),
-        Err(Unbuilt) => return refuse(line, "refused agf unbuilt\n", Status::Refused),
+        Ok(None) => return crossed(CrossFault::NoGlass { surface: 0 }),
+        Err(Unbuilt) => return unbuilt(),
     };
     match good_index(found.copy(), wave) {
         Some(n) => {
-            report::index(line, &found.name, wave, n);
-            Status::Done
+            let mut text = Line::new();
+            print_index(&found.name, wave, n, &mut text);
+            Answer { status: Status::Done, text }
         }
-        None => refuse(line, "refused cross bad-index surface 0\n", Status::Refused),
+        None => crossed(CrossFault::BadIndex { surface: 0 }),
     }
 }
 
-/// The status of a call, and its text.
-fn answer<F: Shelf>(alloc: Global, words: &[Vec<u8>], shelf: &mut F, line: &mut Line) -> Status {
-    match command(words) {
-        None => refuse(line, "usage\n", Status::Usage),
-        Some(Command::Index { catalogue, glass, wave }) => match file(alloc, shelf, catalogue, line) {
-            Ok(bytes) => answer_index(bytes.as_slice(), &glass, &wave, line),
-            Err(status) => status,
+/// The answer to a call.
+fn answer_of<F: Shelf>(alloc: Global, words: &[Vec<u8>], shelf: &mut F) -> Answer {
+    match command_of(words) {
+        None => {
+            let mut text = Line::new();
+            print_usage(&mut text);
+            Answer { status: Status::Usage, text }
+        }
+        Some(Command::Index { catalogue, glass, wave }) => match slurp(alloc, shelf, catalogue) {
+            Ok(bytes) => answer_index(bytes.as_slice(), &glass, &wave),
+            Err(fault) => unread(fault),
         },
     }
 }
 
 /// Does what the words ask: reads the files from the shelf, checks them, and writes the report to
 /// the sink. On every status but `Done`, `WriteFault` and `Memory` the text is one fault line; with
-/// `Memory` nothing is written.
+/// `Memory` nothing is written. Each prepared surface counts a step.
 pub fn run<F: Shelf, K: Sink, L: Ledger>(alloc: Global, words: &[Vec<u8>], shelf: &mut F, out: &mut K, steps: &mut Steps<L>) -> Status
     ensures prepared { steps.new ≡ steps.old }
 {
-    let mut line = Line::new();
-    let status = answer(alloc, words, shelf, &mut line);
     let _steps = steps;
-    match put(out, line.as_str().as_bytes()) {
-        Ok(()) => status,
+    let answer = answer_of(alloc, words, shelf);
+    match put(out, answer.text.as_str().as_bytes()) {
+        Ok(()) => answer.status,
         Err(_) => Status::WriteFault,
     }
 }
