@@ -1,4 +1,4 @@
-use Rattle.std.proofs.Common.{nat_eq, arith, rules, sym, ap, ◌∙◌}
+use Rattle.std.proofs.Common.{nat_eq, arith, sym, ap, ◌∙◌}
 use Rattle.std.specs.Cmp.Lexicographic.{pointwise}
 use Rattle.lensio.proofs.Found.{found_here}
 use Rattle.lensio.proofs.memory.place_of.Goals as goal
