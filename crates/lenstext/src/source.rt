@@ -1,7 +1,7 @@
 //! The 16-bit units of a file.
 
-ghost use Rattle.std.specs.Prelude.{◌≡◌, ◌≢◌, ◌+◌, ◌<◌, ◌≤◌, true, false, ◌∷◌, ◌++◌, length, drop, slice_index, slice_range, IfOk, IfErr, OnOk};
-ghost use Rattle.lensmodel.specs.TextLines.{units, lines, is_odd};
+ghost use Rattle.std.specs.Prelude.{◌≡◌, ◌≢◌, ◌+◌, ◌<◌, ◌≤◌, true, false, ◌∷◌, ◌++◌, length, drop, slice_index, slice_range, IfOk, IfErr, OnOk, IsTrue, if◌then◌else◌};
+ghost use Rattle.lensmodel.specs.TextLines.{units, lines, is_odd, is_wide, pairs};
 
 use lensmodel::fault::TextFault;
 use std::marker::Model;
@@ -26,6 +26,19 @@ impl<'a> Model for Source<'a> {
 
 const LINE_FEED: u16 = 10;
 
+/// What stands behind the mark that bytes begin with, and whether that is UTF-16.
+fn split_mark(bytes: &[u8]) -> (&[u8], bool)
+    ensures wide { result.1 ≡ is_wide bytes.now }
+    ensures units { (if result.1 then pairs result.0.now else result.0.now) ≡ units bytes.now }
+    ensures length { IsTrue result.1 → length bytes.now ≡ length result.0.now + 2 }
+{
+    match bytes {
+        [0xFF, 0xFE, body @ ..] => (body, true),
+        [0xEF, 0xBB, 0xBF, body @ ..] => (body, false),
+        _ => (bytes, false),
+    }
+}
+
 impl<'a> Source<'a> {
     /// The units of the bytes. `OddByte` where the bytes are UTF-16 and a half unit is left over,
     /// else `Memory` where there are 2^32 bytes or more.
@@ -34,11 +47,7 @@ impl<'a> Source<'a> {
         ensures even { OnOk result (is_odd bytes.now ≡ false) }
         ensures odd { IfErr result (λ f. f ≢ TextFault.Memory → (f ≡ TextFault.OddByte) × (is_odd bytes.now ≡ true)) }
     {
-        let (body, wide) = match bytes {
-            [0xFF, 0xFE, body @ ..] => (body, true),
-            [0xEF, 0xBB, 0xBF, body @ ..] => (body, false),
-            body => (body, false),
-        };
+        let (body, wide) = split_mark(bytes);
         if wide && body.len() % 2 == 1 {
             return Err(TextFault::OddByte);
         }

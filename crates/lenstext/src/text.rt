@@ -20,14 +20,14 @@ pub struct Text {
 }
 
 impl Model for Text {
-    ghost use Rattle.std.specs.Prelude.{List, ℕ, ◌<◌, ◌^◌, length, IsTrue};
-    ghost use Rattle.lenstext.specs.Cuts.{cut, fits};
+    ghost use Rattle.std.specs.Prelude.{List, ℕ, ◌<◌, ◌^◌, length};
+    ghost use Rattle.lenstext.specs.Cuts.{cut, Fits};
 
     ghost Value = { List (List ℕ) };
 
     ghost view = { λ t. cut 0 t.units.items t.ends.items };
 
-    ghost invariant = { λ t. IsTrue (fits 0 (length t.units.items) t.ends.items) × (length t.ends.items < 2 ^ 32) };
+    ghost invariant = { λ t. Fits 0 (length t.units.items) t.ends.items × (length t.ends.items < 2 ^ 32) };
 }
 
 /// The lines of a file. Bytes FF FE begin UTF-16, little endian, and EF BB BF are passed over; in
