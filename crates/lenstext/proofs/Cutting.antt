@@ -55,11 +55,12 @@ pub record Kept (us units ends : List ℕ) (start : ℕ) : Type 0 where
   pub faults : first_fault (length ends + 1) (lines (drop start us)) ≡ first_fault 1 (lines us)
   pub unit_count : length units ≤ start
   pub end_count : length ends ≤ start
+  pub few : length ends ≤ length us
   pub near : start ≤ length us + 1
 
 pub Kept-start : (us : List ℕ) → Kept us [] [] 0
 unfolding last_end
-Kept-start us = record { shape = tt; last = refl; whole = refl; faults = refl; unit_count = omega arith; end_count = omega arith; near = omega arith }
+Kept-start us = record { shape = tt; last = refl; whole = refl; faults = refl; unit_count = omega arith; end_count = omega arith; few = omega arith; near = omega arith }
 
 line_kept : (units line ends : List ℕ) → Fits 0 (length units) ends → last_end 0 ends ≡ length units → cut 0 (units ++ line) (ends ++ length (units ++ line) ∷ []) ≡ cut 0 units ends ++ line ∷ []
 line_kept units line ends f last =
@@ -74,8 +75,8 @@ line_kept units line ends f last =
 sound_line : (n : ℕ) (line : List ℕ) (ls : List (List ℕ)) → line_fault n line ≡ None → first_fault n (line ∷ ls) ≡ first_fault (suc n) ls
 sound_line n line ls e = ap (λ (f : Option TextFault). or_else f (first_fault (suc n) ls)) e
 
-Kept-line : (us units ends : List ℕ) (start : ℕ) (line : List ℕ) (end : ℕ) → Kept us units ends start → start ≤ end → end ≤ length us → length line ≤ end - start → lines (drop start us) ≡ line ∷ lines (drop (end + 1) us) → line_fault (length ends + 1) line ≡ None → Kept us (units ++ line) (ends ++ length (units ++ line) ∷ []) (end + 1)
-Kept-line us units ends start line end k after within narrow first sound =
+Kept-line : (us units ends : List ℕ) (start : ℕ) (line : List ℕ) (end : ℕ) → Kept us units ends start → start < length us → start ≤ end → end ≤ length us → length line ≤ end - start → lines (drop start us) ≡ line ∷ lines (drop (end + 1) us) → line_fault (length ends + 1) line ≡ None → Kept us (units ++ line) (ends ++ length (units ++ line) ∷ []) (end + 1)
+Kept-line us units ends start line end k some after within narrow first sound =
     let n = length (units ++ line) in
     let e : n ≡ length units + length line = length-append units line in
     let s = short (length ends + 1) line sound in
@@ -99,14 +100,15 @@ Kept-line us units ends start line end k after within narrow first sound =
           ∙ k.faults;
       unit_count = omega arith;
       end_count = omega arith;
+      few = omega arith;
       near = omega arith
     }
 
-pub Kept-push : (us units ends : List ℕ) (start : ℕ) (more_units more_ends : List ℕ) (end : ℕ) → Kept us units ends start → start ≤ end → end ≤ length us → more_units ≡ units ++ slice_range us start end → more_ends ≡ ends ++ length more_units ∷ [] → lines (drop start us) ≡ slice_range us start end ∷ lines (drop (end + 1) us) → line_fault (length ends + 1) (slice_range us start end) ≡ None → Kept us more_units more_ends (end + 1)
-Kept-push us units ends start more_units more_ends end k after within copied ended first sound =
+pub Kept-push : (us units ends : List ℕ) (start : ℕ) (more_units more_ends : List ℕ) (end : ℕ) → Kept us units ends start → start < length us → start ≤ end → end ≤ length us → more_units ≡ units ++ slice_range us start end → more_ends ≡ ends ++ length more_units ∷ [] → lines (drop start us) ≡ slice_range us start end ∷ lines (drop (end + 1) us) → line_fault (length ends + 1) (slice_range us start end) ≡ None → Kept us more_units more_ends (end + 1)
+Kept-push us units ends start more_units more_ends end k some after within copied ended first sound =
     let line = slice_range us start end in
     let narrow : length line ≤ end - start = omega (arith, length-take (end - start) (drop start us)) in
-    let p = Kept-line us units ends start line end k after within narrow first sound in
+    let p = Kept-line us units ends start line end k some after within narrow first sound in
     let A : List ℕ → Type 0 = λ es. Kept us (units ++ line) es (end + 1) in
     let B : List ℕ → Type 0 = λ u. Kept us u more_ends (end + 1) in
     let e : ends ++ length (units ++ line) ∷ [] ≡ more_ends = ap (λ (u : List ℕ). ends ++ length u ∷ []) (sym copied) ∙ sym ended in
@@ -160,6 +162,11 @@ length-cut from us (end ∷ ends) = ap suc (length-cut end us ends)
 pub start_of : ℕ → List ℕ → ℕ → ℕ
 start_of from ends zero = from
 start_of from ends (suc i) = get_or ends i 0
+
+pub start_of-first : (ends : List ℕ) (i : ℕ) → i ≡ 0 → 0 ≡ start_of 0 ends i
+unfolding start_of
+start_of-first ends zero e = refl
+start_of-first ends (suc i) e = absurd (omega arith)
 
 pub start_of-later : (from : ℕ) (ends : List ℕ) (i : ℕ) → 0 < i → start_of from ends i ≡ get_or ends (i - 1) 0
 unfolding start_of

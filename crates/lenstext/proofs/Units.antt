@@ -1,5 +1,6 @@
 -- Pairs of bytes.
-use Rattle.std.proofs.Common.{◌≡◌, ℕ, zero, suc, ◌+◌, ◌*◌, ◌/◌, ◌<◌, ◌≤◌, List, [], ◌∷◌, length, get_or, refl, ap, sym, ◌∙◌, arith}
+use Rattle.std.proofs.Common.{◌≡◌, Bool, true, false, ℕ, zero, suc, ◌+◌, ◌*◌, ◌/◌, ◌<◌, ◌≤◌, List, [], ◌∷◌, length, get_or, refl, ap, sym, ◌∙◌, arith}
+use Rattle.std.specs.Prelude.{if◌then◌else◌}
 use Rattle.lensmodel.specs.TextLines.{pairs}
 
 pub length-pairs : (bytes : List ℕ) → length (pairs bytes) ≡ length bytes / 2
@@ -17,3 +18,8 @@ get_or-pairs (low ∷ high ∷ more) (suc k) h =
     get_or-pairs more k (omega arith)
     ∙ ap (λ (m : ℕ). get_or (low ∷ high ∷ more) m 0 + 256 * get_or more (2 * k + 1) 0) (sym a)
     ∙ ap (λ (m : ℕ). get_or (low ∷ high ∷ more) (2 * suc k) 0 + 256 * get_or (low ∷ high ∷ more) m 0) (sym b)
+
+-- there are no more units than bytes
+pub units_fit : (wide : Bool) (body : List ℕ) → length body < 4294967296 → length (if wide then pairs body else body) < 4294967296
+units_fit true body h = omega (arith, length-pairs body)
+units_fit false body h = h

@@ -1,8 +1,8 @@
 -- Words of a line, and where they stand.
-use Rattle.std.proofs.Common.{◌≡◌, ℕ, zero, suc, ◌+◌, ◌-◌, ◌<◌, ◌≤◌, Bool, true, false, List, [], ◌∷◌, length, get_or, take, drop, map, refl, ap, sym, ◌∙◌, subst, arith, length-drop, get_or-drop, drop-drop}
+use Rattle.std.proofs.Common.{◌≡◌, ℕ, zero, suc, ◌+◌, ◌-◌, ◌<◌, ◌≤◌, Bool, true, false, List, [], ◌∷◌, ◌++◌, length, get_or, take, drop, map, refl, ap, sym, ◌∙◌, subst, arith, length-drop, get_or-drop, drop-drop}
 use Rattle.std.specs.Prelude.{if◌then◌else◌, nat_lt, slice_range}
 use Rattle.std.proofs.lemmas.Bool.{le-ltb, le-leb}
-use Rattle.std.proofs.lemmas.List.{at_drop_more, at_drop_all, length-take-le}
+use Rattle.std.proofs.lemmas.List.{at_drop_more, at_drop_all, length-take-le, take-map, take_at, take_all, append-nil}
 use Rattle.lensmodel.specs.TextLines.{onto_first, is_space, pieces, words, without_empty as filled}
 use Rattle.lenstext.specs.Ranges.{places, without_empty, ranges_from, word_ranges}
 
@@ -119,3 +119,17 @@ cuts line at ((u ∷ p) ∷ ps) s =
 pub cut_words : (line : List ℕ) → map (λ (r : ℕ × ℕ). slice_range line r.0 r.1) (word_ranges line) ≡ words line
 unfolding word_ranges words
 cut_words line = cuts line 0 (pieces line) (stands line line 0 refl)
+
+-- the first 64 ranges, when there are no more, and when there are that many
+pub all_ranges : (line : List ℕ) (out rest : List (ℕ × ℕ)) → out ++ rest ≡ word_ranges line → rest ≡ [] → length out ≤ 64 → out ≡ take 64 (word_ranges line)
+all_ranges line out rest e none h =
+    sym (take_all 64 out h) ∙ ap (take 64) (sym (append-nil out) ∙ ap (λ (rs : List (ℕ × ℕ)). out ++ rs) (sym none) ∙ e)
+
+pub full_ranges : (line : List ℕ) (out rest : List (ℕ × ℕ)) → out ++ rest ≡ word_ranges line → length out ≡ 64 → out ≡ take 64 (word_ranges line)
+full_ranges line out rest e h = sym (take_at out rest 64 h) ∙ ap (take 64) e
+
+pub first_words : (line : List ℕ) (out : List (ℕ × ℕ)) → out ≡ take 64 (word_ranges line) → map (λ (r : ℕ × ℕ). slice_range line r.0 r.1) out ≡ take 64 (words line)
+first_words line out e =
+    ap (map (λ (r : ℕ × ℕ). slice_range line r.0 r.1)) e
+    ∙ sym (take-map (λ (r : ℕ × ℕ). slice_range line r.0 r.1) 64 (word_ranges line))
+    ∙ ap (take 64) (cut_words line)

@@ -59,7 +59,8 @@ impl<'a> Source<'a> {
 
     /// How many units there are.
     pub fn len(&self) -> usize
-        ensures { result ≡ length self.now }
+        ensures count { result ≡ length self.now }
+        ensures small { result < 4294967296 }
     {
         if self.wide {
             self.body.len() / 2
