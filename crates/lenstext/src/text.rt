@@ -3,6 +3,7 @@
 ghost use Rattle.std.specs.Prelude.{◌≡◌, ◌≢◌, ◌+◌, ◌<◌, ◌≤◌, Ok, Err, None, Some, [], ◌∷◌, ◌++◌, length, drop, take, map, slice_range, slice_index_or, IfOk, IfErr, OnOk, vec_len};
 ghost use Rattle.std.specs.List.{All};
 ghost use Rattle.lensmodel.specs.TextLines.{text, lines, words, line_fault, first_fault};
+ghost use Rattle.lenstext.specs.Cuts.{start_of};
 ghost use Rattle.lenstext.specs.Ranges.{word_ranges};
 
 use crate::line::{check_line, next_word};
@@ -84,6 +85,18 @@ fn push_line(
     Ok(end)
 }
 
+/// Where line `i` starts, from where each line ends.
+fn start_of_line(ends: &[u32], i: usize) -> usize
+    requires { i < length ends.now }
+    ensures { result ≡ start_of 0 ends.now i }
+{
+    if i == 0 {
+        0
+    } else {
+        ends[i - 1] as usize
+    }
+}
+
 impl Text {
     /// How many lines there are.
     pub fn count(&self) -> usize
@@ -99,8 +112,9 @@ impl Text {
         ensures line { result.now ≡ slice_index_or self.now i [] }
         ensures short { length result.now ≤ 4096 }
     {
-        let start = if i == 0 { 0 } else { self.ends[i - 1] as usize };
-        &self.units[start..self.ends[i] as usize]
+        let start = start_of_line(&self.ends, i);
+        let end = self.ends[i] as usize;
+        &self.units[start..end]
     }
 
     /// Puts the start and the end of each of the first 64 words of the line at `i`, from 0, in place

@@ -1,37 +1,41 @@
-use Rattle.std.proofs.Common.{◌≡◌, ◌≤◌, ◌<◌, ◌-◌, ℕ, List, [], ap, sym, ◌∙◌, length, get_or, take, drop, arith, rules, length-drop, length-take}
-use Rattle.std.proofs.lemmas.List.{get_or_read}
-use Rattle.lenstext.proofs.Cutting.{length-cut, start_of, start_of-first, start_of-later, cut-at, Fits-at, Bounds}
+use Rattle.std.proofs.Common.{◌≡◌, ◌≤◌, ◌<◌, ◌-◌, ℕ, List, [], ap, sym, ◌∙◌, length, take, drop, arith, rules, length-take}
+use Rattle.lenstext.proofs.Cutting.{Found, found, within_ends}
 use Rattle.lenstext.proofs.text.Text.line.Goals as goal
-use Rattle.lenstext.proofs.text.Text.line.Goals.{then-i-eq0, else-i-eq0}
+
+pub start_of_line-start-requires : goal.start_of_line-start-requires
+start_of_line-start-requires c =
+    omega (arith, within_ends c.self.inside.units.items c.self.inside.ends.items c.args.self.now c.args.i c.self.view_is c.requires, ap length c.deref.ensures.value)
 
 pub index-requires : goal.index-requires
 index-requires c =
-    omega (arith, c.requires, c.self.inside.ends.ok.0, length-cut 0 c.self.inside.units.items c.self.inside.ends.items, ap length c.self.view_is)
+    omega (arith, within_ends c.self.inside.units.items c.self.inside.ends.items c.args.self.now c.args.i c.self.view_is c.requires, c.self.inside.ends.ok.0)
 
-pub index-requires-2 : goal.index-requires-2
-index-requires-2 c =
-    omega (arith, c.requires, c.self.inside.ends.ok.0, length-cut 0 c.self.inside.units.items c.self.inside.ends.items, ap length c.self.view_is)
+pub offset_bounds-deref-start : goal.offset_bounds-deref-start
+offset_bounds-deref-start c =
+    let f = found c.self.inside.units.items c.self.inside.ends.items c.deref.result.now c.args.self.now c.args.i c.start_of_line-start.result c.index.result.now c.self.view_is c.requires c.self.invariant.0 c.deref.ensures.value c.start_of_line-start.ensures c.index.ensures in
+    omega (arith, f.order, f.inside, ap length c.deref-2.ensures.value, c.deref-2.type_inv.1)
 
 pub slice_bounds-result-count : goal.slice_bounds-result-count
-slice_bounds-result-count c = ?
+slice_bounds-result-count c =
+    let f = found c.self.inside.units.items c.self.inside.ends.items c.deref.result.now c.args.self.now c.args.i c.start_of_line-start.result c.index.result.now c.self.view_is c.requires c.self.invariant.0 c.deref.ensures.value c.start_of_line-start.ensures c.index.ensures in
+    f.order
 
 pub slice_bounds-result-start : goal.slice_bounds-result-start
-slice_bounds-result-start c = ?
+slice_bounds-result-start c =
+    let f = found c.self.inside.units.items c.self.inside.ends.items c.deref.result.now c.args.self.now c.args.i c.start_of_line-start.result c.index.result.now c.self.view_is c.requires c.self.invariant.0 c.deref.ensures.value c.start_of_line-start.ensures c.index.ensures in
+    f.order
 
 pub slice_bounds-result-end : goal.slice_bounds-result-end
-slice_bounds-result-end c = ?
+slice_bounds-result-end c =
+    let f = found c.self.inside.units.items c.self.inside.ends.items c.deref.result.now c.args.self.now c.args.i c.start_of_line-start.result c.index.result.now c.self.view_is c.requires c.self.invariant.0 c.deref.ensures.value c.start_of_line-start.ensures c.index.ensures in
+    omega (arith, f.inside, ap length c.deref-2.ensures.value)
 
 pub returns-clause-line : goal.returns-clause-line
 returns-clause-line c =
-    let ends = c.self.inside.ends.items in
-    let few : c.args.i < length ends = omega (arith, c.requires, length-cut 0 c.self.inside.units.items ends, ap length c.self.view_is) in
-    let start : c.if-i-eq0.start ≡ start_of 0 ends c.args.i =
-      elim c.if-i-eq0.branch [
-        then-i-eq0 w ↦ w.start-is ∙ start_of-first ends c.args.i w.if-i-eq0.true
-        | else-i-eq0 w ↦ w.start-is ∙ get_or_read ends _ _ (omega arith) w.index.ensures 0 ∙ sym (start_of-later 0 ends c.args.i (omega arith))
-      ] in
-    let end : c.index-2.result.now ≡ get_or ends c.args.i 0 = get_or_read ends _ _ few c.index-2.ensures 0 in
-    ?
+    let f = found c.self.inside.units.items c.self.inside.ends.items c.deref.result.now c.args.self.now c.args.i c.start_of_line-start.result c.index.result.now c.self.view_is c.requires c.self.invariant.0 c.deref.ensures.value c.start_of_line-start.ensures c.index.ensures in
+    ap (λ (us : List ℕ). take (c.index.result.now - c.start_of_line-start.result) (drop c.start_of_line-start.result us)) c.deref-2.ensures.value ∙ f.is
 
 pub returns-clause-short : goal.returns-clause-short
-returns-clause-short c = ?
+returns-clause-short c =
+    let f = found c.self.inside.units.items c.self.inside.ends.items c.deref.result.now c.args.self.now c.args.i c.start_of_line-start.result c.index.result.now c.self.view_is c.requires c.self.invariant.0 c.deref.ensures.value c.start_of_line-start.ensures c.index.ensures in
+    omega (arith, f.short, length-take (c.index.result.now - c.start_of_line-start.result) (drop c.start_of_line-start.result c.deref-2.result.now))

@@ -1,4 +1,4 @@
-use Rattle.std.proofs.Common.{◌≡◌, ◌≤◌, ◌++◌, ℕ, List, [], ◌∷◌, ap, sym, ◌∙◌, arith, rules, tests}
+use Rattle.std.proofs.Common.{◌≡◌, ◌≤◌, ◌++◌, ℕ, List, [], ◌∷◌, ap, sym, ◌∙◌, length, arith, rules, tests}
 use Rattle.lenstext.specs.Ranges.{ranges_from, word_ranges}
 use Rattle.lenstext.proofs.Words.{from_start, all_ranges, full_ranges, first_words}
 use Rattle.lenstext.proofs.text.Text.words.Goals as goal
@@ -7,7 +7,7 @@ pub loop-line-init : goal.loop-line-init
 loop-line-init c = record {
   near = omega arith;
   ranges = ap (λ (rs : List (ℕ × ℕ)). rs ++ ranges_from 0 c.line-line.result.now) c.clear.ensures ∙ from_start c.line-line.result.now;
-  within = ?
+  within = λ k d h. absurd (omega (arith, ap length c.clear.ensures))
 }
 
 pub returns-in_default-clause-ranges : goal.returns-in_default-clause-ranges
