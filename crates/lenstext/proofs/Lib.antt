@@ -1,0 +1,5 @@
+pub mod Units
+pub mod Surrogates
+pub mod Lines
+pub mod Words
+pub mod Cutting

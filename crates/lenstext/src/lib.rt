@@ -1,0 +1,6 @@
+//! The text of a file: its lines, and the words of a line.
+#![tactic(auto)]
+
+mod line;
+mod source;
+pub mod text;
