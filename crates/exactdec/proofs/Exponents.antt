@@ -6,7 +6,7 @@ use Rattle.std.proofs.lemmas.Int.{ints, to_z-of_z, to_z_pos, fits_signed_from_ab
 use Rattle.std.specs.Int.{w32, w128}
 use Rattle.std.specs.Prelude.{Option, Some, None, MatchOption, ◌≤ℤ◌, ◌<ℤ◌, ◌+ℤ◌, ◌-ℤ◌, ◌==◌, neg_ℤ, unsigned_abs, FitsSigned, if◌then◌else◌}
 use Rattle.fixdec.specs.Word.{signed}
-use Rattle.exactdec.specs.Reading.{is_readable}
+use Rattle.fixdec.specs.Reading.{is_readable}
 
 -- a sign keeps every number, or turns every number
 pub sign_cases : (sign : List ℕ) → ((n : ℕ) → signed sign n ≡ pos n) ⊎ ((n : ℕ) → signed sign n ≡ neg_ℤ (pos n))

@@ -4,7 +4,7 @@ use Rattle.std.proofs.lemmas.Bool.{leb-true, lt-leb, lt-ltb, le-ltb, ltb-true, e
 use Rattle.std.proofs.lemmas.Bool.Decides.{eqb_tells}
 use Rattle.std.specs.Prelude.{◌&&◌, ◌||◌, ◌==◌, nat_lt, nat_le, codes, if◌then◌else◌}
 use Rattle.fixdec.specs.Word.{Parts, IsDigit, AreDigits, IsSign, IsPoint, IsMark, IsMantissa, IsPower, IsNoPower, IsGrammatical, Spells, digits, spelling}
-use Rattle.exactdec.specs.Reading.{is_digit, is_sign, is_point, is_mark, unit_front, digits_front, Split, split, is_whole}
+use Rattle.fixdec.specs.Reading.{is_digit, is_sign, is_point, is_mark, unit_front, digits_front, Split, split, is_whole}
 use Rattle.exactdec.proofs.Cuts.{IsUnit, IsMantissaCut, IsMantissaAlone, IsBareCut, IsPlainCut, IsPowerCut, IsCut, and_true, digits_cut, cut_split, split_cuts, test_from_digit}
 use Rattle.exactdec.proofs.Splits.{split_join, not_empty}
 use Rattle.exactdec.proofs.Mantissas.{nil_from_length}

@@ -1,10 +1,11 @@
 -- The answer to a word.
-use Rattle.std.proofs.Common.{◌≡◌, ℕ, ℤ, pos, negsuc, ◌+◌, ◌-◌, ◌*◌, ◌^◌, ◌<◌, ◌≤◌, Bool, true, false, List, [], ◌∷◌, ◌++◌, length, refl, sym, ap, ◌∙◌, subst, arith, ◌⊎◌, inl, inr, Ok, Err}
+use Rattle.std.proofs.Common.{◌≡◌, ℕ, ℤ, pos, negsuc, ◌+◌, ◌-◌, ◌*◌, ◌^◌, ◌<◌, ◌≤◌, Bool, true, false, List, [], ◌∷◌, ◌++◌, length, refl, sym, ap, ◌∙◌, subst, arith, ◌⊎◌, inl, inr, Ok, Err, Some, None}
 use Rattle.std.proofs.Math.Nat.{zero-mul}
-use Rattle.std.proofs.lemmas.Bool.{cases_Bool, cases_lt, lt-ltb, le-ltb}
+use Rattle.std.proofs.lemmas.Bool.{cases_Bool, cases_lt, lt-ltb, le-ltb, lt-leb, le-leb}
 use Rattle.std.proofs.lemmas.Bool.Decides.{eqb_tells}
 use Rattle.std.proofs.lemmas.Int.{ints}
 use Rattle.std.specs.Prelude.{Result, IfOk, ◌≤ℤ◌, ◌+ℤ◌, ◌-ℤ◌, ◌*ℤ◌, ◌==◌, nat_lt, neg_ℤ, if◌then◌else◌}
+use Rattle.std.specs.Result.{result_ok}
 use Rattle.fixdec.specs.Decimal.{Decimal, value, ten_power}
 use Rattle.fixdec.specs.Frac.{Frac, whole, neg_Q, ◌≈◌, ◌*Q◌}
 use Rattle.fixdec.specs.FracLaws.{≈_refl, ≈_sym, ≈_trans}
@@ -13,7 +14,8 @@ use Rattle.fixdec.specs.Ring.{var, neg, ◌⊗◌}
 use Rattle.fixdec.specs.Linear.{linear, fact, no_fact, reads}
 use Rattle.fixdec.specs.PowerLaws.{whole-mul, value-times, value-zero}
 use Rattle.fixdec.specs.Word.{Parts, AreDigits, Spells, IsWord, spelling, digits, from_first, significant, kept, written, signed, number, without_leading, without_trailing, IsReadable}
-use Rattle.exactdec.specs.Reading.{IsAnswer, IsAccepted, IsExponentFault, IsNotNumber, is_readable, Split, split, is_whole, judged, reading}
+use Rattle.fixdec.specs.Reading.{is_readable, Split, split, is_whole, decimal_of}
+use Rattle.exactdec.specs.Reading.{IsAnswer, IsAccepted, IsExponentFault, IsNotNumber, judged, reading}
 use Rattle.exactdec.specs.Stages.{bare, IsSplit, IsNotSplit, HasDigits}
 use Rattle.exactdec.specs.declared.read.DecFault.{DecFault}
 use Rattle.exactdec.specs.declared.read.DecFault.TheVariants.{NotNumber, Digits, Exponent}
@@ -145,3 +147,28 @@ answer_of w r h = subst (λ (x : Result Decimal DecFault). IsAnswer w x) (sym h)
 pub value_of : (w : List ℕ) (r : Result Decimal DecFault) → r ≡ reading w → IfOk r (λ d. (p : Parts) → Spells w p → value d ≈ value (written p))
 value_of w (Ok d) h = λ p s. reading_value w p d s (sym h)
 value_of w (Err e) h = tt
+
+judged_decimal : (w : List ℕ) → is_whole (split w) ≡ true → result_ok (judged (split w).parts) ≡ decimal_of w
+unfolding judged decimal_of
+judged_decimal w h =
+    let p = (split w).parts in
+    elim (cases_lt 30 (length (significant p))) [
+      inl l ↦ rw (h, lt-ltb 30 (length (significant p)) l, lt-leb (length (significant p)) 30 l)
+      | inr l ↦ elim (cases_Bool (is_readable (kept p).exp)) [
+        inl r ↦ rw (h, le-ltb 30 (length (significant p)) l, le-leb (length (significant p)) 30 l, r)
+        | inr r ↦ rw (h, le-ltb 30 (length (significant p)) l, le-leb (length (significant p)) 30 l, r)
+      ]
+    ]
+
+no_decimal : (w : List ℕ) → is_whole (split w) ≡ false → None ≡ decimal_of w
+unfolding decimal_of
+no_decimal w h = rw h
+
+pub reading_decimal : (w : List ℕ) → result_ok (reading w) ≡ decimal_of w
+reading_decimal w = elim (cases_Bool (is_whole (split w))) [
+    inl h ↦ ap (λ (r : Result Decimal DecFault). result_ok r) (reading-whole w h) ∙ judged_decimal w h
+    | inr h ↦ ap (λ (r : Result Decimal DecFault). result_ok r) (reading-other w h) ∙ no_decimal w h
+  ]
+
+pub decimal_from : (w : List ℕ) (r : Result Decimal DecFault) → r ≡ reading w → result_ok r ≡ decimal_of w
+decimal_from w r h = ap (λ (x : Result Decimal DecFault). result_ok x) h ∙ reading_decimal w

@@ -4,7 +4,7 @@ use Rattle.std.proofs.lemmas.Bool.{lt-ltb, le-ltb, ltb-true, ltb-false, eqb-true
 use Rattle.std.proofs.lemmas.Bool.Decides.{eqb_tells}
 use Rattle.std.specs.Prelude.{◌==◌, ◌&&◌, ◌||◌, nat_lt, if◌then◌else◌}
 use Rattle.fixdec.specs.Word.{Parts, digits, spelling}
-use Rattle.exactdec.specs.Reading.{is_digit, is_sign, is_point, is_mark, unit_front, unit_after, digits_front, digits_after, Split, mantissa_front, power_front, has_power, split, is_whole}
+use Rattle.fixdec.specs.Reading.{is_digit, is_sign, is_point, is_mark, unit_front, unit_after, digits_front, digits_after, Split, mantissa_front, power_front, has_power, split, is_whole}
 use Rattle.exactdec.specs.Stages.{bare, IsSplit, IsNotSplit}
 use Rattle.exactdec.specs.declared.read.DecFault.{DecFault}
 use Rattle.exactdec.specs.declared.read.DecFault.TheVariants.{NotNumber}
