@@ -52,11 +52,11 @@ val_ends lo hi s = elim (fits_cap lo && fits_cap hi) as (λ b. Val s ≡ (if b t
 -- ends from 0 on that are not kept: the upper one is past the cap
 lost_ends : (lo hi : ℤ) → pos 0 ≤ℤ lo → lo ≤ℤ hi → ((s : Ends) → ends lo hi ≡ Val s → ⊥) → pos 1_000_000_000_000_000_000 ≤ℤ hi
 lost_ends lo hi p q n = elim (cases_lt 1_000_000_000_000_000_000 (unsigned_abs hi)) [
-    inl h ↦ omega (arith, ints)
-    | inr h ↦
+  | inl h ↦ omega (arith, ints)
+  | inr h ↦
       let l : unsigned_abs lo ≤ 1_000_000_000_000_000_000 = omega (arith, ints) in
       absurd (n (record { lo = lo; hi = hi }) (ends_val lo hi (le-leb (unsigned_abs lo) 1_000_000_000_000_000_000 l) (le-leb (unsigned_abs hi) 1_000_000_000_000_000_000 h)))
-  ]
+]
 
 high_past : (z : ℤ) → pos 1_000_000_000_000_000_000 ≤ℤ z → lt_z (pos 1_000_000_000_000) z ≡ true
 high_past z h = grind (arith, ints)
@@ -108,9 +108,9 @@ high_times (suc a) (negsuc k) h = omega (arith, ints)
 
 high_above : (d : Decimal) → le_z d.mant (pos 0) ≡ false → pos 0 <ℤ high_of d
 high_above d h = elim d.mant as (λ m. le_z m (pos 0) ≡ false → pos 0 <ℤ ceil_times (pos 11 *ℤ m) (d.exp +ℤ pos 8)) [
-    pos n ↦ λ e. high_times (11 * n) (d.exp +ℤ pos 8) (let p = leb-false n 0 e in omega arith)
-    | negsuc n ↦ λ e. absurd cc
-  ] h
+  | pos n ↦ λ e. high_times (11 * n) (d.exp +ℤ pos 8) (let p = leb-false n 0 e in omega arith)
+  | negsuc n ↦ λ e. absurd cc
+] h
 
 not_past : (m k : ℤ) → lt_z k m ≡ false → m ≤ℤ k
 not_past m k h = grind (arith, ints)
@@ -132,8 +132,8 @@ value_times_1_1 d =
     let tenth : eleven_tenths ≈ whole (pos 11) *Q N = same_if (is eleven_tenths) (is_mul (is_whole (pos 11)) (is_tenth 1)) refl in
     linear (T ∷ W ∷ S ∷ N ∷ eleven_tenths ∷ whole d.mant ∷ []) _ _ (search reads depth 20 fits 4000)
     (fact S (whole-mul (pos 11) d.mant) (search reads depth 20 fits 4000)
-      (fact (whole (pos 11) *Q whole d.mant) less (search reads depth 20 fits 4000)
-        (fact (neg_Q (whole d.mant *Q T)) tenth (search reads depth 20 fits 4000) no_fact))) tt
+    (fact (whole (pos 11) *Q whole d.mant) less (search reads depth 20 fits 4000)
+    (fact (neg_Q (whole d.mant *Q T)) tenth (search reads depth 20 fits 4000) no_fact))) tt
 
 -- the zone is a ceiling
 pub zone_ceil : (d : Decimal) → IsCeil (value d *Q eleven_tenths *Q units 9) (zone d)

@@ -48,14 +48,18 @@ pub fn read(word: &[u16]) -> Result<Dec, DecFault>
 /// A word has its parts in one way only.
 pub fn one_spelling()
     ensures { (word : List ℕ) (p q : Written) → Spells word p → Spells word q → p ≡ q }
-{
-}
+{}
 
 const PLUS: u16 = 43;
+
 const MINUS: u16 = 45;
+
 const POINT: u16 = 46;
+
 const NINE: u16 = 57;
+
 const CAPITAL_E: u16 = 69;
+
 const SMALL_E: u16 = 101;
 
 /// The parts of a word that its value is made of.
@@ -122,8 +126,14 @@ impl<'a> Front<'a> {
 
     fn with_power(self, power_sign: &'a [u16], power: &'a [u16]) -> Parts<'a>
         ensures { parts_of result ≡ record {
-            sign = self.entry.sign.now; whole = self.entry.whole.now; point = []; part = self.entry.part.now;
-            mark = []; power_sign = power_sign.now; power = power.now } }
+          sign = self.entry.sign.now;
+          whole = self.entry.whole.now;
+          point = [];
+          part = self.entry.part.now;
+          mark = [];
+          power_sign = power_sign.now;
+          power = power.now;
+        } }
     {
         Parts {
             sign: self.sign,
@@ -239,10 +249,8 @@ fn judge(parts: &Parts<'_>) -> Result<Dec, DecFault>
 /// from -60 to 30.
 fn exponent_of(parts: &Parts<'_>, zeros: usize) -> Option<i32>
     requires { AreDigits parts.now.power.now }
-    ensures {
-        let exp = signed_number parts.now.power_sign.now (number parts.now.power.now) -ℤ pos (length parts.now.part.now) +ℤ pos zeros in
-        MatchOption result (is_readable exp ≡ false) (λ r. (r ≡ exp) × (is_readable exp ≡ true))
-    }
+    ensures { let exp = signed_number parts.now.power_sign.now (number parts.now.power.now) -ℤ pos (length parts.now.part.now) +ℤ pos zeros in
+        MatchOption result (is_readable exp ≡ false) (λ r. (r ≡ exp) × (is_readable exp ≡ true)) }
 {
     let power = signed(parts.power_sign, power_of(parts.power));
     let digits = parts.part.len();
