@@ -3,7 +3,7 @@ use Rattle.std.proofs.Common.{◌≡◌, ℕ, ◌+◌, ◌<◌, ◌≤◌, Bool,
 use Rattle.std.proofs.lemmas.Bool.{leb-true, le-leb, ltb-true, ltb-false, lt-ltb, le-ltb, cases_Bool, cases_lt}
 use Rattle.std.specs.Prelude.{◌&&◌, ◌||◌, ◌==◌, nat_lt, nat_le, if◌then◌else◌}
 use Rattle.fixdec.specs.Word.{Parts, IsDigit, AreDigits, digits, spelling}
-use Rattle.exactdec.specs.Reading.{is_digit, is_sign, is_point, is_mark, unit_front, unit_after, digits_front, digits_after, Split, mantissa_front, power_front, has_power, split}
+use Rattle.fixdec.specs.Reading.{is_digit, is_sign, is_point, is_mark, unit_front, unit_after, digits_front, digits_after, Split, mantissa_front, power_front, has_power, split}
 use Rattle.exactdec.proofs.Splits.{unit_join, digits_join, spelling-append, split-power}
 
 -- digits and their test
@@ -52,9 +52,9 @@ unit_none is r h = ap (λ (xs : List ℕ). xs ++ unit_after is r) (sym h) ∙ un
 
 pub unit_cut : (is : ℕ → Bool) (s r : List ℕ) → IsUnit is s r → (unit_front is (s ++ r) ≡ s) × (unit_after is (s ++ r) ≡ r)
 unit_cut is s r h = elim h [
-    inl n ↦ (ap (λ (xs : List ℕ). unit_front is (xs ++ r)) n.0 ∙ n.1 ∙ sym n.0, ap (λ (xs : List ℕ). unit_after is (xs ++ r)) n.0 ∙ unit_none is r n.1)
-    | inr u ↦ (ap (λ (xs : List ℕ). unit_front is (xs ++ r)) u.1 ∙ rw u.2 (sym u.1), ap (λ (xs : List ℕ). unit_after is (xs ++ r)) u.1 ∙ rw u.2)
-  ]
+  | inl n ↦ (ap (λ (xs : List ℕ). unit_front is (xs ++ r)) n.0 ∙ n.1 ∙ sym n.0, ap (λ (xs : List ℕ). unit_after is (xs ++ r)) n.0 ∙ unit_none is r n.1)
+  | inr u ↦ (ap (λ (xs : List ℕ). unit_front is (xs ++ r)) u.1 ∙ rw u.2 (sym u.1), ap (λ (xs : List ℕ). unit_after is (xs ++ r)) u.1 ∙ rw u.2)
+]
 
 -- the parts of p's mantissa end where they do in front of r
 pub record IsMantissaCut (p : Parts) (r : List ℕ) : Type 0 where
@@ -178,8 +178,8 @@ power_split p r h =
     let one : length p.mark ≡ 1 = ap length h.marked.1 in
     let marks : 0 < length (unit_front is_mark tail) = (let l = ap length m.0 in omega arith) in
     split-power w
-      (subst (λ (x : Split). 0 < length (digits x.parts)) (sym front) h.some)
-      (subst (λ (x : Split). 0 < length (unit_front is_mark x.rest)) (sym front) marks)
+    (subst (λ (x : Split). 0 < length (digits x.parts)) (sym front) h.some)
+    (subst (λ (x : Split). 0 < length (unit_front is_mark x.rest)) (sym front) marks)
     ∙ ap (λ (x : Split). power_front x.parts x.rest) front
     ∙ (λ i. record { parts = record p { mark = m.0 i; power_sign = sign i; power = power i }; rest = rest i })
 
@@ -191,12 +191,12 @@ cut_split p r h = elim h [ inl b ↦ bare_split p r b | inr o ↦ elim o [ inl q
 power_cases : (s : Split) → ((has_power s ≡ true) × (0 < length (digits s.parts)) × (0 < length (unit_front is_mark s.rest)))
     ⊎ (((has_power s ≡ false) × (length (digits s.parts) ≡ 0)) ⊎ ((has_power s ≡ false) × (0 < length (digits s.parts)) × (length (unit_front is_mark s.rest) ≡ 0)))
 power_cases s = elim (cases_lt 0 (length (digits s.parts))) [
-    inl h ↦ elim (cases_lt 0 (length (unit_front is_mark s.rest))) [
-      inl k ↦ inl (rw (lt-ltb 0 (length (digits s.parts)) h, lt-ltb 0 (length (unit_front is_mark s.rest)) k), h, k)
-      | inr k ↦ inr (inr (rw (lt-ltb 0 (length (digits s.parts)) h, le-ltb 0 (length (unit_front is_mark s.rest)) k), h, omega arith))
-    ]
-    | inr h ↦ inr (inl (rw (le-ltb 0 (length (digits s.parts)) h), omega arith))
+  | inl h ↦ elim (cases_lt 0 (length (unit_front is_mark s.rest))) [
+    | inl k ↦ inl (rw (lt-ltb 0 (length (digits s.parts)) h, lt-ltb 0 (length (unit_front is_mark s.rest)) k), h, k)
+    | inr k ↦ inr (inr (rw (lt-ltb 0 (length (digits s.parts)) h, le-ltb 0 (length (unit_front is_mark s.rest)) k), h, omega arith))
   ]
+  | inr h ↦ inr (inl (rw (le-ltb 0 (length (digits s.parts)) h), omega arith))
+]
 
 one_unit : (is : ℕ → Bool) (w : List ℕ) → 0 < length (unit_front is w) → (c : ℕ) × (unit_front is w ≡ c ∷ []) × (is c ≡ true)
 one_unit is [] h = absurd (omega arith)
@@ -234,9 +234,9 @@ split_cuts w =
     let cut = mantissa_cuts w in
     let alone : IsMantissaAlone m.parts = record { mark = refl; sign = refl; power = refl } in
     elim (power_cases m) [
-      inl h ↦ subst (λ (s : Split). IsCut s.parts s.rest) (sym (split-power w h.1 h.2)) (inr (inr (power_cut w h.1 h.2)))
+      | inl h ↦ subst (λ (s : Split). IsCut s.parts s.rest) (sym (split-power w h.1 h.2)) (inr (inr (power_cut w h.1 h.2)))
       | inr o ↦ elim o [
-        inl h ↦ subst (λ (s : Split). IsCut s.parts s.rest) (sym (split_without w h.0)) (inl (record { alone = alone; cut = cut; none = h.1 }))
+        | inl h ↦ subst (λ (s : Split). IsCut s.parts s.rest) (sym (split_without w h.0)) (inl (record { alone = alone; cut = cut; none = h.1 }))
         | inr h ↦ subst (λ (s : Split). IsCut s.parts s.rest) (sym (split_without w h.0)) (inr (inl (record { alone = alone; cut = cut; some = h.1; end = no_unit (unit_front is_mark m.rest) h.2 })))
       ]
     ]

@@ -18,24 +18,24 @@ leading-other c cs h = rw h
 pub length-leading : (ds : List ℕ) → length (without_leading ds) ≤ length ds
 length-leading [] = omega arith
 length-leading (c ∷ cs) = elim (eqb_tells c 48) [
-    inl t ↦ let e = ap length (leading-zero c cs t.0) in omega (arith, length-leading cs)
-    | inr t ↦ let e = ap length (leading-other c cs t.0) in omega arith
-  ]
+  | inl t ↦ let e = ap length (leading-zero c cs t.0) in omega (arith, length-leading cs)
+  | inr t ↦ let e = ap length (leading-other c cs t.0) in omega arith
+]
 
 -- more digits behind zeros alone, and behind others
 pub leading-none : (ds more : List ℕ) → length (without_leading ds) ≡ 0 → without_leading (ds ++ more) ≡ without_leading more
 leading-none [] more h = refl
 leading-none (c ∷ cs) more h = elim (eqb_tells c 48) [
-    inl t ↦ leading-zero c (cs ++ more) t.0 ∙ leading-none cs more (sym (ap length (leading-zero c cs t.0)) ∙ h)
-    | inr t ↦ let e = ap length (leading-other c cs t.0) in absurd (omega arith)
-  ]
+  | inl t ↦ leading-zero c (cs ++ more) t.0 ∙ leading-none cs more (sym (ap length (leading-zero c cs t.0)) ∙ h)
+  | inr t ↦ let e = ap length (leading-other c cs t.0) in absurd (omega arith)
+]
 
 pub leading-some : (ds more : List ℕ) → 0 < length (without_leading ds) → without_leading (ds ++ more) ≡ without_leading ds ++ more
 leading-some [] more h = absurd (omega arith)
 leading-some (c ∷ cs) more h = elim (eqb_tells c 48) [
-    inl t ↦ leading-zero c (cs ++ more) t.0 ∙ leading-some cs more (rw (leading-zero c cs t.0) at h) ∙ ap (λ (xs : List ℕ). xs ++ more) (sym (leading-zero c cs t.0))
-    | inr t ↦ leading-other c (cs ++ more) t.0 ∙ ap (λ (xs : List ℕ). xs ++ more) (sym (leading-other c cs t.0))
-  ]
+  | inl t ↦ leading-zero c (cs ++ more) t.0 ∙ leading-some cs more (rw (leading-zero c cs t.0) at h) ∙ ap (λ (xs : List ℕ). xs ++ more) (sym (leading-zero c cs t.0))
+  | inr t ↦ leading-other c (cs ++ more) t.0 ∙ ap (λ (xs : List ℕ). xs ++ more) (sym (leading-other c cs t.0))
+]
 
 -- a digit behind others
 pub trailing-zero : (ds : List ℕ) → without_trailing (ds ++ 48 ∷ []) ≡ without_trailing ds
@@ -73,16 +73,16 @@ one_more_zero n m len l h e =
 number_back : (rs : List ℕ) → number (reverse rs) ≡ number (reverse (without_leading rs)) * 10 ^ (length rs - length (without_leading rs))
 number_back [] = refl
 number_back (c ∷ cs) = elim (eqb_tells c 48) [
-    inl t ↦
+  | inl t ↦
       let digit : c - 48 ≡ 0 = omega (arith, t.1) in
       let push = ap number (back c cs) ∙ number-push (reverse cs) c in
       let step = one_more_zero _ _ (length cs) (length (without_leading cs)) (length-leading cs) (number_back cs) in
       push ∙ (let e : 10 * number (reverse cs) + (c - 48) ≡ 10 * number (reverse cs) = omega arith in e) ∙ step
       ∙ ap (λ (xs : List ℕ). number (reverse xs) * 10 ^ (suc (length cs) - length xs)) (sym (leading-zero c cs t.0))
-    | inr t ↦
+  | inr t ↦
       let none : suc (length cs) - suc (length cs) ≡ 0 = omega arith in
       sym (ap (λ (xs : List ℕ). number (reverse xs) * 10 ^ (suc (length cs) - length xs)) (leading-other c cs t.0) ∙ ap (λ (j : ℕ). number (reverse (c ∷ cs)) * 10 ^ j) none ∙ omega arith)
-  ]
+]
 
 -- the zeros at the end make a power of ten
 pub number-trailing : (ds : List ℕ) → number ds ≡ number (without_trailing ds) * 10 ^ (length ds - length (without_trailing ds))
@@ -98,11 +98,11 @@ number-trailing ds =
 pub number-leading : (ds : List ℕ) → number ds ≡ number (without_leading ds)
 number-leading [] = refl
 number-leading (c ∷ cs) = elim (eqb_tells c 48) [
-    inl t ↦
+  | inl t ↦
       let digit : 10 * 0 + (c - 48) ≡ 0 = omega (arith, t.1) in
       ap (λ (n : ℕ). number_after n cs) digit ∙ number-leading cs ∙ ap number (sym (leading-zero c cs t.0))
-    | inr t ↦ ap number (sym (leading-other c cs t.0))
-  ]
+  | inr t ↦ ap number (sym (leading-other c cs t.0))
+]
 
 pub length-trailing : (ds : List ℕ) → length (without_trailing ds) ≤ length ds
 unfolding without_trailing
@@ -144,9 +144,9 @@ number_after_from n (d ∷ ds) = omega (arith, number_after_from (10 * n + (d - 
 leading_above : (ds : List ℕ) → AreDigits ds → 0 < length (without_leading ds) → 0 < number (without_leading ds)
 leading_above [] d h = absurd (omega arith)
 leading_above (c ∷ cs) d h = elim (eqb_tells c 48) [
-    inl t ↦ rw (leading-zero c cs t.0) (leading_above cs d.1 (rw (leading-zero c cs t.0) at h))
-    | inr t ↦ rw (leading-other c cs t.0) (let low = d.0.low in let ne = t.1 in omega (arith, number_after_from (10 * 0 + (c - 48)) cs))
-  ]
+  | inl t ↦ rw (leading-zero c cs t.0) (leading_above cs d.1 (rw (leading-zero c cs t.0) at h))
+  | inr t ↦ rw (leading-other c cs t.0) (let low = d.0.low in let ne = t.1 in omega (arith, number_after_from (10 * 0 + (c - 48)) cs))
+]
 
 -- the kept digits write another number than 0, where there are any
 pub kept_above : (ds : List ℕ) → AreDigits ds → 0 < length (without_trailing (without_leading ds)) → 0 < number (without_trailing (without_leading ds))

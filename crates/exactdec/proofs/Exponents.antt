@@ -6,7 +6,7 @@ use Rattle.std.proofs.lemmas.Int.{ints, to_z-of_z, to_z_pos, fits_signed_from_ab
 use Rattle.std.specs.Int.{w32, w128}
 use Rattle.std.specs.Prelude.{Option, Some, None, MatchOption, ◌≤ℤ◌, ◌<ℤ◌, ◌+ℤ◌, ◌-ℤ◌, ◌==◌, neg_ℤ, unsigned_abs, FitsSigned, if◌then◌else◌}
 use Rattle.fixdec.specs.Word.{signed}
-use Rattle.exactdec.specs.Reading.{is_readable}
+use Rattle.fixdec.specs.Reading.{is_readable}
 
 -- a sign keeps every number, or turns every number
 pub sign_cases : (sign : List ℕ) → ((n : ℕ) → signed sign n ≡ pos n) ⊎ ((n : ℕ) → signed sign n ≡ neg_ℤ (pos n))
@@ -32,9 +32,9 @@ IsJudged r e = MatchOption r (is_readable e ≡ false) (λ x. (x ≡ e) × (is_r
 -- far past the limits
 far : (sign : List ℕ) (n len zeros : ℕ) → 10 ^ 30 ≤ n → len < 2 ^ 64 → zeros < 2 ^ 64 → is_readable (sum_of (signed sign n) len zeros) ≡ false
 far sign n len zeros h l z = elim (sign_cases sign) [
-    inl s ↦ let e = s n in is_readable-high (sum_of (signed sign n) len zeros) (omega (arith, ints))
-    | inr s ↦ let e = s n in is_readable-low (sum_of (signed sign n) len zeros) (omega (arith, ints))
-  ]
+  | inl s ↦ let e = s n in is_readable-high (sum_of (signed sign n) len zeros) (omega (arith, ints))
+  | inr s ↦ let e = s n in is_readable-low (sum_of (signed sign n) len zeros) (omega (arith, ints))
+]
 
 judged_far : (r : Option ℤ) (e f : ℤ) → is_readable e ≡ false → is_readable f ≡ false → IsJudged r e → IsJudged r f
 judged_far None e f p q h = q
@@ -44,14 +44,14 @@ judged_far (Some x) e f p q h = let t = h.1 in absurd cc
 pub judged_capped : (sign : List ℕ) (n m : ℕ) (s : ℤ) (len zeros : ℕ) (r : Option ℤ) → m ≡ min n 1_000_000_000_000_000_000_000_000_000_000 → s ≡ signed sign m → len < 2 ^ 64 → zeros < 2 ^ 64
     → IsJudged r (sum_of s len zeros) → IsJudged r (sum_of (signed sign n) len zeros)
 judged_capped sign n m s len zeros r hm hs l z h = elim (cases_lt (10 ^ 30) n) [
-    inl p ↦
+  | inl p ↦
       let e : m ≡ 10 ^ 30 = omega arith in
       judged_far r (sum_of s len zeros) (sum_of (signed sign n) len zeros)
-        (rw hs (far sign m len zeros (omega arith) l z)) (far sign n len zeros (omega arith) l z) h
-    | inr p ↦
+      (rw hs (far sign m len zeros (omega arith) l z)) (far sign n len zeros (omega arith) l z) h
+  | inr p ↦
       let e : m ≡ n = omega arith in
       subst (λ (t : ℤ). IsJudged r (sum_of t len zeros)) (hs ∙ ap (signed sign) e) h
-  ]
+]
 
 pub size_capped : (sign : List ℕ) (n m : ℕ) (s : ℤ) → m ≡ min n 1_000_000_000_000_000_000_000_000_000_000 → s ≡ signed sign m → unsigned_abs s ≤ 10 ^ 30
 size_capped sign n m s hm hs = elim (sign_cases sign) [ inl p ↦ let e = p m in omega (arith, ints) | inr p ↦ let e = p m in omega (arith, ints) ]

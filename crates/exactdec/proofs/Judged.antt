@@ -8,7 +8,8 @@ use Rattle.std.specs.Int.{w32}
 use Rattle.std.specs.Prelude.{Result, ◌≤ℤ◌, ◌+ℤ◌, ◌-ℤ◌, ◌==◌, nat_lt, neg_ℤ, unsigned_abs, FitsSigned, if◌then◌else◌}
 use Rattle.fixdec.specs.Decimal.{Decimal, IsKept}
 use Rattle.fixdec.specs.Word.{Parts, digits, from_first, significant, kept, signed, number, AreDigits, IsReadable}
-use Rattle.exactdec.specs.Reading.{judged, is_readable}
+use Rattle.fixdec.specs.Reading.{is_readable}
+use Rattle.exactdec.specs.Reading.{judged}
 use Rattle.exactdec.specs.declared.read.DecFault.TheVariants.{Digits, Exponent}
 use Rattle.exactdec.specs.Mantissas.{IsKeptOf}
 use Rattle.exactdec.proofs.Digits.{kept_above}

@@ -14,11 +14,11 @@ nil_from_length (d ∷ ds) h = absurd (omega arith)
 
 push_other : (ds : List ℕ) (digit : ℕ) → (digit == 48) ≡ false → without_leading (ds ++ digit ∷ []) ≡ without_leading ds ++ digit ∷ []
 push_other ds digit other = elim (cases_lt 0 (length (without_leading ds))) [
-    inl l ↦ leading-some ds (digit ∷ []) l
-    | inr l ↦
+  | inl l ↦ leading-some ds (digit ∷ []) l
+  | inr l ↦
       let none : length (without_leading ds) ≡ 0 = omega arith in
       leading-none ds (digit ∷ []) none ∙ leading-other digit [] other ∙ ap (λ (s : List ℕ). s ++ digit ∷ []) (sym (nil_from_length (without_leading ds) none))
-  ]
+]
 
 shifted : (value k : ℕ) → value * 10 ^ (k + 1) ≡ 10 * (value * 10 ^ k)
 shifted value k = let e : k + 1 ≡ suc k = omega arith in ap (λ (j : ℕ). value * 10 ^ j) e ∙ ap (λ (w : ℕ). value * w) (pow-succ' 10 k) ∙ omega arith
@@ -65,11 +65,11 @@ kept_of_other value kept seen digit value' ds other ordered step h =
       seen_is = let k = ap length e in omega arith;
       kept_is = let k = ap length t in omega arith;
       value_is = λ b.
-        let before : value ≡ number (without_trailing s) = h.value_is (omega arith) in
-        let zeros : seen - kept ≡ length s - length (without_trailing s) = λ i. seen_is i - kept_is i in
-        let all : number s ≡ value * 10 ^ (seen - kept) = number-trailing s ∙ (λ i. sym before i * 10 ^ (sym zeros i)) in
-        let power : value * 10 ^ (seen - kept + 1) ≡ 10 * (value * 10 ^ (seen - kept)) = shifted value (seen - kept) in
-        step (omega arith) ∙ (let sum : value * 10 ^ (seen - kept + 1) + (digit - 48) ≡ 10 * number s + (digit - 48) = omega arith in sum) ∙ sym (number-push s digit) ∙ ap number (sym t);
+          let before : value ≡ number (without_trailing s) = h.value_is (omega arith) in
+          let zeros : seen - kept ≡ length s - length (without_trailing s) = λ i. seen_is i - kept_is i in
+          let all : number s ≡ value * 10 ^ (seen - kept) = number-trailing s ∙ (λ i. sym before i * 10 ^ (sym zeros i)) in
+          let power : value * 10 ^ (seen - kept + 1) ≡ 10 * (value * 10 ^ (seen - kept)) = shifted value (seen - kept) in
+          step (omega arith) ∙ (let sum : value * 10 ^ (seen - kept + 1) + (digit - 48) ≡ 10 * number s + (digit - 48) = omega arith in sum) ∙ sym (number-push s digit) ∙ ap number (sym t);
     }
 
 -- a number of so many digits, with zeros and a last digit behind it

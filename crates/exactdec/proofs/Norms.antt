@@ -33,26 +33,26 @@ least_power-last z k = refl
 least_power-bound : (z n k : ℕ) → z * z ≤ 10 ^ (k + n) → z * z ≤ 10 ^ least_power z n k
 least_power-bound z zero k h = rw (least_power-last z k) (rw add-zero at h)
 least_power-bound z (suc n) k h = elim (cases_lt (10 ^ k) (z * z)) [
-    inl l ↦ let e : k + suc n ≡ k + 1 + n = omega arith in rw (least_power-next z n k l) (least_power-bound z n (k + 1) (rw e at h))
-    | inr l ↦ rw (least_power-found z (suc n) k l) l
-  ]
+  | inl l ↦ let e : k + suc n ≡ k + 1 + n = omega arith in rw (least_power-next z n k l) (least_power-bound z n (k + 1) (rw e at h))
+  | inr l ↦ rw (least_power-found z (suc n) k l) l
+]
 
 -- and the least that is
 least_power-least : (z n k j : ℕ) → k ≤ j → z * z ≤ 10 ^ j → least_power z n k ≤ j
 least_power-least z zero k j h l = rw (least_power-last z k) h
 least_power-least z (suc n) k j h l = elim (cases_lt (10 ^ k) (z * z)) [
-    inl p ↦
+  | inl p ↦
       let more : k + 1 ≤ j = elim (cases_lt k j) [ inl q ↦ omega arith | inr q ↦ let same : j ≡ k = omega arith in let here = rw same at l in absurd (omega arith) ] in
       rw (least_power-next z n k p) (least_power-least z n (k + 1) j more l)
-    | inr p ↦ rw (least_power-found z (suc n) k p) h
-  ]
+  | inr p ↦ rw (least_power-found z (suc n) k p) h
+]
 
 least_power-from : (z n k : ℕ) → k ≤ least_power z n k
 least_power-from z zero k = rw (least_power-last z k) (omega arith)
 least_power-from z (suc n) k = elim (cases_lt (10 ^ k) (z * z)) [
-    inl p ↦ rw (least_power-next z n k p) (let more = least_power-from z n (k + 1) in omega arith)
-    | inr p ↦ rw (least_power-found z (suc n) k p) (omega arith)
-  ]
+  | inl p ↦ rw (least_power-next z n k p) (let more = least_power-from z n (k + 1) in omega arith)
+  | inr p ↦ rw (least_power-found z (suc n) k p) (omega arith)
+]
 
 square_is : (z : ℤ) → z *ℤ z ≡ pos (unsigned_abs z * unsigned_abs z)
 square_is (pos n) = refl
@@ -93,10 +93,10 @@ norm_is z h =
       high = omega (arith, ints);
       bound = square_below z (pos (least_power size 12 12) -ℤ pos 18) (least_power size 12 12) (omega (arith, ints)) (least_power-bound size 12 12 most);
       least = λ e l b.
-        let k = abs_from_minus_six e l in
-        let j = least_power-least size 12 12 k.0 k.2 (whole_square z e k.0 k.1 b) in
-        let is = k.1 in
-        omega (arith, ints);
+          let k = abs_from_minus_six e l in
+          let j = least_power-least size 12 12 k.0 k.2 (whole_square z e k.0 k.1 b) in
+          let is = k.1 in
+          omega (arith, ints);
     }
 
 pub size_of_zone : (a : Ends) → IsZone a → unsigned_abs a.hi ≤ 10 ^ 12

@@ -3,7 +3,7 @@ use Rattle.std.proofs.Common.{◌≡◌, ℕ, ◌+◌, ◌-◌, ◌<◌, ◌≤�
 use Rattle.std.proofs.lemmas.Bool.{cases_Bool, cases_lt}
 use Rattle.std.proofs.Math.Seq.{take-append-add, take-append_seam}
 use Rattle.fixdec.specs.Word.{Parts, IsDigit, AreDigits, IsMantissa, IsPower, IsNoPower, IsGrammatical, Spells, IsWord, BeginsWord, IsPlace, digits, spelling}
-use Rattle.exactdec.specs.Reading.{is_digit, is_sign, is_point, is_mark, unit_front, digits_front, Split, split, is_whole}
+use Rattle.fixdec.specs.Reading.{is_digit, is_sign, is_point, is_mark, unit_front, digits_front, Split, split, is_whole}
 use Rattle.exactdec.proofs.Cuts.{IsUnit, IsMantissaCut, IsMantissaAlone, IsBareCut, IsPlainCut, IsPowerCut, IsCut, cut_split, split_cuts}
 use Rattle.exactdec.proofs.Grammar.{split_of_grammar, whole_of_grammar, sign_of_unit, point_of_unit, mark_of_unit, mantissa_of_cut, no_power_alone, power_of_cut}
 use Rattle.exactdec.proofs.Mantissas.{nil_from_length}
@@ -57,10 +57,10 @@ next_mantissa p u v e h =
 -- where the parts end depends on the next unit alone
 next_cut : (p : Parts) (u v : List ℕ) → first u ≡ first v → IsCut p u → IsCut p v
 next_cut p u v e h = elim h [
-    inl b ↦ inl (record { alone = b.alone; cut = next_mantissa p u v e b.cut; none = b.none })
-    | inr o ↦ elim o [
-      inl q ↦ inr (inl (record { alone = q.alone; cut = next_mantissa p u v e q.cut; some = q.some; end = sym (unit_by_first is_mark v) ∙ ap (unit_front is_mark) (sym e) ∙ unit_by_first is_mark u ∙ q.end }))
-      | inr q ↦
+  | inl b ↦ inl (record { alone = b.alone; cut = next_mantissa p u v e b.cut; none = b.none })
+  | inr o ↦ elim o [
+    | inl q ↦ inr (inl (record { alone = q.alone; cut = next_mantissa p u v e q.cut; some = q.some; end = sym (unit_by_first is_mark v) ∙ ap (unit_front is_mark) (sym e) ∙ unit_by_first is_mark u ∙ q.end }))
+    | inr q ↦
         let power = first-append p.power u v e in
         let sign = first-append p.power_sign (p.power ++ u) (p.power ++ v) power in
         let mark = first-append p.mark (p.power_sign ++ (p.power ++ u)) (p.power_sign ++ (p.power ++ v)) sign in
@@ -72,8 +72,8 @@ next_cut p u v e h = elim h [
           power = q.power;
           power_end = next_digits u v e q.power_end;
         }))
-    ]
   ]
+]
 
 zero_digit : IsDigit 48
 zero_digit = record { low = omega arith; high = omega arith }
@@ -88,20 +88,32 @@ bare_begins p r h =
     let alone : spelling p ≡ p.sign ++ p.point = (λ i. p.sign ++ (whole i ++ (p.point ++ (part i ++ (h.alone.mark i ++ (h.alone.sign i ++ h.alone.power i)))))) ∙ ap (λ (xs : List ℕ). p.sign ++ xs) (append-nil p.point) in
     let sign = sign_of_unit p.sign (p.whole ++ (p.point ++ (p.part ++ r))) h.cut.sign in
     elim (point_of_unit p.point (p.part ++ r) h.cut.point) [
-      inl n ↦ (48 ∷ [], (record { sign = p.sign; whole = 48 ∷ []; point = []; part = []; mark = []; power_sign = []; power = [] }, record {
-        grammatical = record {
-          mantissa = record { sign = sign; whole = (zero_digit, tt); point = inl refl; part = tt; no_part = λ e. refl; digits = omega arith };
-          power = inl (record { mark = refl; sign = refl; digits = refl });
-        };
-        spelled = ap (λ (xs : List ℕ). xs ++ 48 ∷ []) (alone ∙ ap (λ (xs : List ℕ). p.sign ++ xs) n ∙ append-nil p.sign);
-      }))
-      | inr o ↦ (48 ∷ [], (record { sign = p.sign; whole = []; point = 46 ∷ []; part = 48 ∷ []; mark = []; power_sign = []; power = [] }, record {
-        grammatical = record {
-          mantissa = record { sign = sign; whole = tt; point = inr refl; part = (zero_digit, tt); no_part = λ e. absurd cc; digits = omega arith };
-          power = inl (record { mark = refl; sign = refl; digits = refl });
-        };
-        spelled = ap (λ (xs : List ℕ). xs ++ 48 ∷ []) (alone ∙ ap (λ (xs : List ℕ). p.sign ++ xs) o) ∙ append_assoc p.sign (46 ∷ []) (48 ∷ []);
-      }))
+      | inl n ↦ (
+        48 ∷ [],
+        (
+          record { sign = p.sign; whole = 48 ∷ []; point = []; part = []; mark = []; power_sign = []; power = [] },
+          record {
+            grammatical = record {
+              mantissa = record { sign = sign; whole = (zero_digit, tt); point = inl refl; part = tt; no_part = λ e. refl; digits = omega arith };
+              power = inl (record { mark = refl; sign = refl; digits = refl });
+            };
+            spelled = ap (λ (xs : List ℕ). xs ++ 48 ∷ []) (alone ∙ ap (λ (xs : List ℕ). p.sign ++ xs) n ∙ append-nil p.sign);
+          },
+        ),
+      )
+      | inr o ↦ (
+        48 ∷ [],
+        (
+          record { sign = p.sign; whole = []; point = 46 ∷ []; part = 48 ∷ []; mark = []; power_sign = []; power = [] },
+          record {
+            grammatical = record {
+              mantissa = record { sign = sign; whole = tt; point = inr refl; part = (zero_digit, tt); no_part = λ e. absurd cc; digits = omega arith };
+              power = inl (record { mark = refl; sign = refl; digits = refl });
+            };
+            spelled = ap (λ (xs : List ℕ). xs ++ 48 ∷ []) (alone ∙ ap (λ (xs : List ℕ). p.sign ++ xs) o) ∙ append_assoc p.sign (46 ∷ []) (48 ∷ []);
+          },
+        ),
+      )
     ]
 
 itself : (p : Parts) → IsGrammatical p → BeginsWord (spelling p)
@@ -112,22 +124,27 @@ power_begins : (p : Parts) (r : List ℕ) → IsPowerCut p r → BeginsWord (spe
 power_begins p r h =
     let m = mantissa_of_cut p (p.mark ++ (p.power_sign ++ (p.power ++ r))) h.cut h.some in
     elim (cases_lt 0 (length p.power)) [
-      inl l ↦ itself p (record { mantissa = m; power = inr (power_of_cut p r h l) })
+      | inl l ↦ itself p (record { mantissa = m; power = inr (power_of_cut p r h l) })
       | inr l ↦
-        let none = nil_from_length p.power (omega arith) in
-        let q = record p { power = 48 ∷ [] } in
-        (48 ∷ [], (q, record {
-          grammatical = record {
-            mantissa = record { sign = m.sign; whole = m.whole; point = m.point; part = m.part; no_part = m.no_part; digits = m.digits };
-            power = inr (record {
-              mark = mark_of_unit p.mark h.marked.0 h.marked.1 h.marked.2;
-              sign = sign_of_unit p.power_sign (p.power ++ r) h.sign;
-              digits = (zero_digit, tt);
-              some = omega arith;
-            });
-          };
-          spelled = spelling-append p (48 ∷ []) ∙ ap (λ (xs : List ℕ). p.sign ++ (p.whole ++ (p.point ++ (p.part ++ (p.mark ++ (p.power_sign ++ (xs ++ 48 ∷ []))))))) none;
-        }))
+          let none = nil_from_length p.power (omega arith) in
+          let q = record p { power = 48 ∷ [] } in (
+            48 ∷ [],
+            (
+              q,
+              record {
+                grammatical = record {
+                  mantissa = record { sign = m.sign; whole = m.whole; point = m.point; part = m.part; no_part = m.no_part; digits = m.digits };
+                  power = inr (record {
+                    mark = mark_of_unit p.mark h.marked.0 h.marked.1 h.marked.2;
+                    sign = sign_of_unit p.power_sign (p.power ++ r) h.sign;
+                    digits = (zero_digit, tt);
+                    some = omega arith;
+                  });
+                };
+                spelled = spelling-append p (48 ∷ []) ∙ ap (λ (xs : List ℕ). p.sign ++ (p.whole ++ (p.point ++ (p.part ++ (p.mark ++ (p.power_sign ++ (xs ++ 48 ∷ []))))))) none;
+              },
+            ),
+          )
     ]
 
 -- the front that is taken apart begins a word
@@ -136,9 +153,9 @@ front_begins w =
     let p = (split w).parts in
     let r = (split w).rest in
     elim (split_cuts w) [
-      inl b ↦ bare_begins p r b
+      | inl b ↦ bare_begins p r b
       | inr o ↦ elim o [
-        inl q ↦ itself p (record { mantissa = mantissa_of_cut p r q.cut q.some; power = inl (no_power_alone p q.alone) })
+        | inl q ↦ itself p (record { mantissa = mantissa_of_cut p r q.cut q.some; power = inl (no_power_alone p q.alone) })
         | inr q ↦ power_begins p r q
       ]
     ]

@@ -1,10 +1,11 @@
 -- The answer to a word.
-use Rattle.std.proofs.Common.{◌≡◌, ℕ, ℤ, pos, negsuc, ◌+◌, ◌-◌, ◌*◌, ◌^◌, ◌<◌, ◌≤◌, Bool, true, false, List, [], ◌∷◌, ◌++◌, length, refl, sym, ap, ◌∙◌, subst, arith, ◌⊎◌, inl, inr, Ok, Err}
+use Rattle.std.proofs.Common.{◌≡◌, ℕ, ℤ, pos, negsuc, ◌+◌, ◌-◌, ◌*◌, ◌^◌, ◌<◌, ◌≤◌, Bool, true, false, List, [], ◌∷◌, ◌++◌, length, refl, sym, ap, ◌∙◌, subst, arith, ◌⊎◌, inl, inr, Ok, Err, Some, None}
 use Rattle.std.proofs.Math.Nat.{zero-mul}
-use Rattle.std.proofs.lemmas.Bool.{cases_Bool, cases_lt, lt-ltb, le-ltb}
+use Rattle.std.proofs.lemmas.Bool.{cases_Bool, cases_lt, lt-ltb, le-ltb, lt-leb, le-leb}
 use Rattle.std.proofs.lemmas.Bool.Decides.{eqb_tells}
 use Rattle.std.proofs.lemmas.Int.{ints}
 use Rattle.std.specs.Prelude.{Result, IfOk, ◌≤ℤ◌, ◌+ℤ◌, ◌-ℤ◌, ◌*ℤ◌, ◌==◌, nat_lt, neg_ℤ, if◌then◌else◌}
+use Rattle.std.specs.Result.{result_ok}
 use Rattle.fixdec.specs.Decimal.{Decimal, value, ten_power}
 use Rattle.fixdec.specs.Frac.{Frac, whole, neg_Q, ◌≈◌, ◌*Q◌}
 use Rattle.fixdec.specs.FracLaws.{≈_refl, ≈_sym, ≈_trans}
@@ -13,7 +14,8 @@ use Rattle.fixdec.specs.Ring.{var, neg, ◌⊗◌}
 use Rattle.fixdec.specs.Linear.{linear, fact, no_fact, reads}
 use Rattle.fixdec.specs.PowerLaws.{whole-mul, value-times, value-zero}
 use Rattle.fixdec.specs.Word.{Parts, AreDigits, Spells, IsWord, spelling, digits, from_first, significant, kept, written, signed, number, without_leading, without_trailing, IsReadable}
-use Rattle.exactdec.specs.Reading.{IsAnswer, IsAccepted, IsExponentFault, IsNotNumber, is_readable, Split, split, is_whole, judged, reading}
+use Rattle.fixdec.specs.Reading.{is_readable, Split, split, is_whole, decimal_of}
+use Rattle.exactdec.specs.Reading.{IsAnswer, IsAccepted, IsExponentFault, IsNotNumber, judged, reading}
 use Rattle.exactdec.specs.Stages.{bare, IsSplit, IsNotSplit, HasDigits}
 use Rattle.exactdec.specs.declared.read.DecFault.{DecFault}
 use Rattle.exactdec.specs.declared.read.DecFault.TheVariants.{NotNumber, Digits, Exponent}
@@ -31,12 +33,12 @@ not_readable e h r = let low = r.low in let high = r.high in let yes : is_readab
 judged_answer : (w : List ℕ) (p : Parts) → Spells w p → IsAnswer w (judged p)
 unfolding judged
 judged_answer w p h = elim (cases_lt 30 (length (significant p))) [
-    inl l ↦ rw (lt-ltb 30 (length (significant p)) l) (p, h, l)
-    | inr l ↦ elim (cases_Bool (is_readable (kept p).exp)) [
-      inl r ↦ rw (le-ltb 30 (length (significant p)) l, r) (p, h, record { digits = l; exponent = readable_from (kept p).exp r; kept = refl })
-      | inr r ↦ rw (le-ltb 30 (length (significant p)) l, r) (p, h, record { digits = l; exponent = not_readable (kept p).exp r })
-    ]
+  | inl l ↦ rw (lt-ltb 30 (length (significant p)) l) (p, h, l)
+  | inr l ↦ elim (cases_Bool (is_readable (kept p).exp)) [
+    | inl r ↦ rw (le-ltb 30 (length (significant p)) l, r) (p, h, record { digits = l; exponent = readable_from (kept p).exp r; kept = refl })
+    | inr r ↦ rw (le-ltb 30 (length (significant p)) l, r) (p, h, record { digits = l; exponent = not_readable (kept p).exp r })
   ]
+]
 
 pub reading-whole : (w : List ℕ) → is_whole (split w) ≡ true → reading w ≡ judged (split w).parts
 unfolding reading
@@ -49,18 +51,18 @@ reading-other w h = rw h
 -- what is read of a word is its answer
 pub reading_answer : (w : List ℕ) → IsAnswer w (reading w)
 reading_answer w = elim (cases_Bool (is_whole (split w))) [
-    inl h ↦ subst (λ (r : Result Decimal DecFault). IsAnswer w r) (sym (reading-whole w h)) (judged_answer w (split w).parts (grammar_of_whole w h))
-    | inr h ↦ subst (λ (r : Result Decimal DecFault). IsAnswer w r) (sym (reading-other w h)) (record {
-      outside = λ s. let yes = whole_of_grammar w s.0 s.1 in absurd cc;
-      place = place_is w;
-    })
-  ]
+  | inl h ↦ subst (λ (r : Result Decimal DecFault). IsAnswer w r) (sym (reading-whole w h)) (judged_answer w (split w).parts (grammar_of_whole w h))
+  | inr h ↦ subst (λ (r : Result Decimal DecFault). IsAnswer w r) (sym (reading-other w h)) (record {
+    outside = λ s. let yes = whole_of_grammar w s.0 s.1 in absurd cc;
+    place = place_is w;
+  })
+]
 
 signed-mul : (sign : List ℕ) (n m : ℕ) → signed sign (n * m) ≡ signed sign n *ℤ pos m
 signed-mul sign n m = elim (sign_cases sign) [
-    inl s ↦ s (n * m) ∙ ap (λ (z : ℤ). z *ℤ pos m) (sym (s n))
-    | inr s ↦ s (n * m) ∙ ringℤ (pos n ∷ pos m ∷ []) (neg (var 0 ⊗ var 1)) (neg (var 0) ⊗ var 1) tt ∙ ap (λ (z : ℤ). z *ℤ pos m) (sym (s n))
-  ]
+  | inl s ↦ s (n * m) ∙ ap (λ (z : ℤ). z *ℤ pos m) (sym (s n))
+  | inr s ↦ s (n * m) ∙ ringℤ (pos n ∷ pos m ∷ []) (neg (var 0 ⊗ var 1)) (neg (var 0) ⊗ var 1) tt ∙ ap (λ (z : ℤ). z *ℤ pos m) (sym (s n))
+]
 
 signed-zero : (sign : List ℕ) → signed sign 0 ≡ pos 0
 signed-zero sign = elim (sign_cases sign) [ inl s ↦ s 0 | inr s ↦ s 0 ]
@@ -73,38 +75,38 @@ moved : (m e : ℤ) (z : ℕ) → value (record { mant = m; exp = e +ℤ pos z }
 moved m e z =
     linear (whole m ∷ whole (m *ℤ pos (10 ^ z)) ∷ ten_power e ∷ ten_power (e +ℤ pos z) ∷ whole (pos (10 ^ z)) ∷ []) _ _ (search reads depth 20 fits 4000)
     (fact (whole (pos 1)) (value-times m e (pos z)) (search reads depth 20 fits 4000)
-      (fact (neg_Q (ten_power e)) (whole-mul m (pos (10 ^ z))) (search reads depth 20 fits 4000) no_fact)) tt
+    (fact (neg_Q (ten_power e)) (whole-mul m (pos (10 ^ z))) (search reads depth 20 fits 4000) no_fact)) tt
 
 -- zeros change no value
 pub value-kept : (p : Parts) → value (kept p) ≈ value (written p)
 unfolding written
 value-kept p = elim (cases_lt 0 (length (significant p))) [
-    inl h ↦
+  | inl h ↦
       let z = length (from_first p) - length (significant p) in
       let mant : signed p.sign (number (digits p)) ≡ signed p.sign (number (significant p)) *ℤ pos (10 ^ z) = ap (signed p.sign) (number_is p) ∙ signed-mul p.sign (number (significant p)) (10 ^ z) in
       subst (λ (d : Decimal). value d ≈ value (written p)) (sym (kept-some p h))
-        (subst (λ (m : ℤ). value (record { mant = signed p.sign (number (significant p)); exp = exponent p }) ≈ value (record { mant = m; exp = signed p.power_sign (number p.power) -ℤ pos (length p.part) })) (sym mant)
-          (moved (signed p.sign (number (significant p))) (signed p.power_sign (number p.power) -ℤ pos (length p.part)) z))
-    | inr h ↦
+      (subst (λ (m : ℤ). value (record { mant = signed p.sign (number (significant p)); exp = exponent p }) ≈ value (record { mant = m; exp = signed p.power_sign (number p.power) -ℤ pos (length p.part) })) (sym mant)
+      (moved (signed p.sign (number (significant p))) (signed p.power_sign (number p.power) -ℤ pos (length p.part)) z))
+  | inr h ↦
       let none : length (significant p) ≡ 0 = omega arith in
       let empty = ap number (nil_from_length (significant p) none) in
       let zero : number (digits p) ≡ 0 = number_is p ∙ ap (λ (n : ℕ). n * 10 ^ (length (from_first p) - length (significant p))) empty ∙ zero-mul (10 ^ (length (from_first p) - length (significant p))) in
       let mant : signed p.sign (number (digits p)) ≡ pos 0 = ap (signed p.sign) zero ∙ signed-zero p.sign in
       subst (λ (d : Decimal). value d ≈ value (written p)) (sym (kept-zero p none))
-        (≈_trans (value-zero (pos 0) (pos 0) (signed p.power_sign (number p.power) -ℤ pos (length p.part)) refl)
-          (subst (λ (m : ℤ). value (record { mant = pos 0; exp = signed p.power_sign (number p.power) -ℤ pos (length p.part) }) ≈ value (record { mant = m; exp = signed p.power_sign (number p.power) -ℤ pos (length p.part) })) (sym mant) (≈_refl _)))
-  ]
+      (≈_trans (value-zero (pos 0) (pos 0) (signed p.power_sign (number p.power) -ℤ pos (length p.part)) refl)
+      (subst (λ (m : ℤ). value (record { mant = pos 0; exp = signed p.power_sign (number p.power) -ℤ pos (length p.part) }) ≈ value (record { mant = m; exp = signed p.power_sign (number p.power) -ℤ pos (length p.part) })) (sym mant) (≈_refl _)))
+]
 
 -- a decimal that is judged is the one that is kept
 judged-ok : (p : Parts) (d : Decimal) → judged p ≡ Ok d → d ≡ kept p
 unfolding judged
 judged-ok p d h = elim (cases_lt 30 (length (significant p))) [
-    inl l ↦ absurd (let e = rw (lt-ltb 30 (length (significant p)) l) at h in cc)
-    | inr l ↦ elim (cases_Bool (is_readable (kept p).exp)) [
-      inl r ↦ let e = rw (le-ltb 30 (length (significant p)) l, r) at h in cc
-      | inr r ↦ absurd (let e = rw (le-ltb 30 (length (significant p)) l, r) at h in cc)
-    ]
+  | inl l ↦ absurd (let e = rw (lt-ltb 30 (length (significant p)) l) at h in cc)
+  | inr l ↦ elim (cases_Bool (is_readable (kept p).exp)) [
+    | inl r ↦ let e = rw (le-ltb 30 (length (significant p)) l, r) at h in cc
+    | inr r ↦ absurd (let e = rw (le-ltb 30 (length (significant p)) l, r) at h in cc)
   ]
+]
 
 -- what is read of a word has its value
 pub reading_value : (w : List ℕ) (p : Parts) (d : Decimal) → Spells w p → reading w ≡ Ok d → value d ≈ value (written p)
@@ -145,3 +147,28 @@ answer_of w r h = subst (λ (x : Result Decimal DecFault). IsAnswer w x) (sym h)
 pub value_of : (w : List ℕ) (r : Result Decimal DecFault) → r ≡ reading w → IfOk r (λ d. (p : Parts) → Spells w p → value d ≈ value (written p))
 value_of w (Ok d) h = λ p s. reading_value w p d s (sym h)
 value_of w (Err e) h = tt
+
+judged_decimal : (w : List ℕ) → is_whole (split w) ≡ true → result_ok (judged (split w).parts) ≡ decimal_of w
+unfolding judged decimal_of
+judged_decimal w h =
+    let p = (split w).parts in
+    elim (cases_lt 30 (length (significant p))) [
+      | inl l ↦ rw (h, lt-ltb 30 (length (significant p)) l, lt-leb (length (significant p)) 30 l)
+      | inr l ↦ elim (cases_Bool (is_readable (kept p).exp)) [
+        | inl r ↦ rw (h, le-ltb 30 (length (significant p)) l, le-leb (length (significant p)) 30 l, r)
+        | inr r ↦ rw (h, le-ltb 30 (length (significant p)) l, le-leb (length (significant p)) 30 l, r)
+      ]
+    ]
+
+no_decimal : (w : List ℕ) → is_whole (split w) ≡ false → None ≡ decimal_of w
+unfolding decimal_of
+no_decimal w h = rw h
+
+pub reading_decimal : (w : List ℕ) → result_ok (reading w) ≡ decimal_of w
+reading_decimal w = elim (cases_Bool (is_whole (split w))) [
+  | inl h ↦ ap (λ (r : Result Decimal DecFault). result_ok r) (reading-whole w h) ∙ judged_decimal w h
+  | inr h ↦ ap (λ (r : Result Decimal DecFault). result_ok r) (reading-other w h) ∙ no_decimal w h
+]
+
+pub decimal_from : (w : List ℕ) (r : Result Decimal DecFault) → r ≡ reading w → result_ok r ≡ decimal_of w
+decimal_from w r h = ap (λ (x : Result Decimal DecFault). result_ok x) h ∙ reading_decimal w

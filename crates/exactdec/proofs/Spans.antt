@@ -79,11 +79,11 @@ in_cap_times m k h l =
 -- a divisor past the dividend may be a nearer one past it
 near : (m : ℤ) (j : ℕ) (op : ℤ → ℤ → ℤ) → ((a b : ℕ) → unsigned_abs m < a → unsigned_abs m < b → op m (pos a) ≡ op m (pos b)) → unsigned_abs m < 10 ^ 32 → op m (pos (10 ^ min j 38)) ≡ op m (pos (10 ^ j))
 near m j op far h = elim (cases_lt j 38) [
-    inl p ↦ ap (λ (i : ℕ). op m (pos (10 ^ i))) (let l : min j 38 ≡ j = omega arith in l)
-    | inr p ↦
+  | inl p ↦ ap (λ (i : ℕ). op m (pos (10 ^ i))) (let l : min j 38 ≡ j = omega arith in l)
+  | inr p ↦
       let power : 10 ^ 38 ≤ 10 ^ j = pow-le-pow_right (omega arith) p in
       ap (λ (i : ℕ). op m (pos (10 ^ i))) (let l : min j 38 ≡ 38 = omega arith in l) ∙ far (10 ^ 38) (10 ^ j) (omega arith) (omega arith)
-  ]
+]
 
 pub floor_near : (m k : ℤ) → unsigned_abs m < 10 ^ 32 → le_z (pos 0) k ≡ false → floor m (pos (10 ^ min (unsigned_abs k) 38)) ≡ floor_times m k
 floor_near m (pos k) h l = absurd (omega (arith, ints, leb-false 0 k l))

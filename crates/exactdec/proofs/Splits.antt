@@ -4,7 +4,7 @@ use Rattle.std.proofs.lemmas.Bool.{lt-ltb, le-ltb, ltb-true, ltb-false, eqb-true
 use Rattle.std.proofs.lemmas.Bool.Decides.{eqb_tells}
 use Rattle.std.specs.Prelude.{◌==◌, ◌&&◌, ◌||◌, nat_lt, if◌then◌else◌}
 use Rattle.fixdec.specs.Word.{Parts, digits, spelling}
-use Rattle.exactdec.specs.Reading.{is_digit, is_sign, is_point, is_mark, unit_front, unit_after, digits_front, digits_after, Split, mantissa_front, power_front, has_power, split, is_whole}
+use Rattle.fixdec.specs.Reading.{is_digit, is_sign, is_point, is_mark, unit_front, unit_after, digits_front, digits_after, Split, mantissa_front, power_front, has_power, split, is_whole}
 use Rattle.exactdec.specs.Stages.{bare, IsSplit, IsNotSplit}
 use Rattle.exactdec.specs.declared.read.DecFault.{DecFault}
 use Rattle.exactdec.specs.declared.read.DecFault.TheVariants.{NotNumber}
@@ -169,8 +169,8 @@ power_fault w sign whole part rest mark after psign behind power end e h b t m r
     let power_is = b.power_is ∙ ap digits_front behind_is in
     let end_is = b.end_is ∙ ap digits_after behind_is in
     not_split w end e
-      (whole-power w some marked ∙ (λ i. nat_lt 0 (length (sym power_is i)) && (length (sym end_is i) == 0)) ∙ r)
-      (end_is ∙ ap (λ (s : Split). s.rest) (sym (split-power w some marked))) n
+    (whole-power w some marked ∙ (λ i. nat_lt 0 (length (sym power_is i)) && (length (sym end_is i) == 0)) ∙ r)
+    (end_is ∙ ap (λ (s : Split). s.rest) (sym (split-power w some marked))) n
 
 pub power_found : (w sign whole part rest mark after psign behind power end : List ℕ) → IsFront w sign whole part rest → IsBack rest mark after psign behind power end
     → true ≡ nat_lt 0 (length (whole ++ part)) → false ≡ (length mark == 0) → (nat_lt 0 (length power) && (length end == 0)) ≡ true
@@ -194,12 +194,12 @@ no_power power end h = rw (le-ltb 0 (length power) (let e = eqb-true (length pow
 
 pub more_behind : (power end : List ℕ) → false ≡ (length power == 0) → false ≡ (length end == 0) → (nat_lt 0 (length power) && (length end == 0)) ≡ false
 more_behind power end h k = elim (eqb_tells (length power) 0) [
-    inl e ↦ absurd (let a = e.0 in cc)
-    | inr e ↦ let ne = e.1 in rw (lt-ltb 0 (length power) (omega arith)) (sym k)
-  ]
+  | inl e ↦ absurd (let a = e.0 in cc)
+  | inr e ↦ let ne = e.1 in rw (lt-ltb 0 (length power) (omega arith)) (sym k)
+]
 
 pub all_read : (power end : List ℕ) → false ≡ (length power == 0) → true ≡ (length end == 0) → (nat_lt 0 (length power) && (length end == 0)) ≡ true
 all_read power end h k = elim (eqb_tells (length power) 0) [
-    inl e ↦ absurd (let a = e.0 in cc)
-    | inr e ↦ let ne = e.1 in rw (lt-ltb 0 (length power) (omega arith)) (sym k)
-  ]
+  | inl e ↦ absurd (let a = e.0 in cc)
+  | inr e ↦ let ne = e.1 in rw (lt-ltb 0 (length power) (omega arith)) (sym k)
+]

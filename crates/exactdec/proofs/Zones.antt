@@ -1,16 +1,22 @@
 -- Zones, by the steps of their making.
-use Rattle.std.proofs.Common.{◌≡◌, ℕ, zero, suc, ℤ, pos, negsuc, ◌+◌, ◌*◌, ◌^◌, ◌<◌, ◌≤◌, Bool, true, false, refl, sym, ap, ◌∙◌, arith, Some, None, ◌⊎◌, inl, inr}
+use Rattle.std.proofs.Common.{◌≡◌, ℕ, zero, suc, ℤ, pos, negsuc, ◌+◌, ◌*◌, ◌^◌, ◌<◌, ◌≤◌, Bool, true, false, refl, sym, ap, ◌∙◌, arith, Some, None, ◌⊎◌, inl, inr, subst, List, [], ◌∷◌}
 use Rattle.std.proofs.Math.Nat.{one-le-pow, mul-le-mul}
 use Rattle.std.proofs.lemmas.Bool.{leb-true, leb-false, le-leb, lt-leb, cases_lt}
 use Rattle.std.proofs.lemmas.Int.{ints, unsigned_abs-mul, fits_signed_from_abs}
 use Rattle.std.specs.Int.{w128}
 use Rattle.std.specs.Int.Signed.{le_z, lt_z}
-use Rattle.std.specs.Prelude.{◌≤ℤ◌, ◌<ℤ◌, ◌+ℤ◌, ◌*ℤ◌, ◌&&◌, int_le, int_lt, unsigned_abs, FitsSigned, if◌then◌else◌}
-use Rattle.fixdec.specs.Decimal.{Decimal}
+use Rattle.std.specs.Prelude.{◌≤ℤ◌, ◌<ℤ◌, ◌+ℤ◌, ◌-ℤ◌, ◌*ℤ◌, ◌&&◌, int_le, int_lt, unsigned_abs, FitsSigned, if◌then◌else◌}
+use Rattle.fixdec.specs.Decimal.{Decimal, value, ten_power}
 use Rattle.fixdec.specs.Ends.{Ends, InCap}
 use Rattle.fixdec.specs.Interval.{ends, fits_cap}
 use Rattle.fixdec.specs.Scaled.{floor_times, ceil_times, dec_ceil}
-use Rattle.fixdec.specs.Zone.{zone, zone_span, IsZone, times_1_1}
+use Rattle.fixdec.specs.Frac.{Frac, whole, neg_Q, ◌≈◌, ◌*Q◌}
+use Rattle.fixdec.specs.FracLaws.{is, is_mul, is_whole, same_if}
+use Rattle.fixdec.specs.Linear.{linear, fact, no_fact, reads}
+use Rattle.fixdec.specs.Member.{units}
+use Rattle.fixdec.specs.PowerLaws.{is_tenth, whole-mul, ten_power-add, dec_ceil_is, ceil_same}
+use Rattle.fixdec.specs.Rounding.{IsCeil}
+use Rattle.fixdec.specs.Zone.{zone, zone_span, IsZone, times_1_1, eleven_tenths}
 use Rattle.fixdec.specs.declared.step.Step.TheVariants.{Val, Lost}
 use Rattle.fixdec.specs.declared.step.Why.TheVariants.{Range}
 use Rattle.exactdec.proofs.Spans.{times_order, ends_val}
@@ -46,11 +52,11 @@ val_ends lo hi s = elim (fits_cap lo && fits_cap hi) as (λ b. Val s ≡ (if b t
 -- ends from 0 on that are not kept: the upper one is past the cap
 lost_ends : (lo hi : ℤ) → pos 0 ≤ℤ lo → lo ≤ℤ hi → ((s : Ends) → ends lo hi ≡ Val s → ⊥) → pos 1_000_000_000_000_000_000 ≤ℤ hi
 lost_ends lo hi p q n = elim (cases_lt 1_000_000_000_000_000_000 (unsigned_abs hi)) [
-    inl h ↦ omega (arith, ints)
-    | inr h ↦
+  | inl h ↦ omega (arith, ints)
+  | inr h ↦
       let l : unsigned_abs lo ≤ 1_000_000_000_000_000_000 = omega (arith, ints) in
       absurd (n (record { lo = lo; hi = hi }) (ends_val lo hi (le-leb (unsigned_abs lo) 1_000_000_000_000_000_000 l) (le-leb (unsigned_abs hi) 1_000_000_000_000_000_000 h)))
-  ]
+]
 
 high_past : (z : ℤ) → pos 1_000_000_000_000_000_000 ≤ℤ z → lt_z (pos 1_000_000_000_000) z ≡ true
 high_past z h = grind (arith, ints)
@@ -102,9 +108,9 @@ high_times (suc a) (negsuc k) h = omega (arith, ints)
 
 high_above : (d : Decimal) → le_z d.mant (pos 0) ≡ false → pos 0 <ℤ high_of d
 high_above d h = elim d.mant as (λ m. le_z m (pos 0) ≡ false → pos 0 <ℤ ceil_times (pos 11 *ℤ m) (d.exp +ℤ pos 8)) [
-    pos n ↦ λ e. high_times (11 * n) (d.exp +ℤ pos 8) (let p = leb-false n 0 e in omega arith)
-    | negsuc n ↦ λ e. absurd cc
-  ] h
+  | pos n ↦ λ e. high_times (11 * n) (d.exp +ℤ pos 8) (let p = leb-false n 0 e in omega arith)
+  | negsuc n ↦ λ e. absurd cc
+] h
 
 not_past : (m k : ℤ) → lt_z k m ≡ false → m ≤ℤ k
 not_past m k h = grind (arith, ints)
@@ -113,3 +119,26 @@ pub zone_range : (d : Decimal) (s : Ends) → le_z d.mant (pos 0) ≡ false → 
 zone_range d s h e l =
     let hi = (val_ends (low_of d) (high_of d) s e).1 in
     record { low = rw hi (high_above d h); one = refl; high = not_past s.hi (pos 1_000_000_000_000) l }
+
+-- the value of 1.1 times a decimal
+value_times_1_1 : (d : Decimal) → value (times_1_1 d) ≈ value d *Q eleven_tenths
+value_times_1_1 d =
+    let T = ten_power d.exp in
+    let W = whole (pos 11 *ℤ d.mant) in
+    let S = ten_power (d.exp -ℤ pos 1) in
+    let N = ten_power (negsuc 0) in
+    let step : d.exp -ℤ pos 1 ≡ d.exp +ℤ negsuc 0 = omega (arith, ints) in
+    let less : S ≈ T *Q N = subst (λ (e : ℤ). ten_power e ≈ T *Q N) (sym step) (ten_power-add d.exp (negsuc 0)) in
+    let tenth : eleven_tenths ≈ whole (pos 11) *Q N = same_if (is eleven_tenths) (is_mul (is_whole (pos 11)) (is_tenth 1)) refl in
+    linear (T ∷ W ∷ S ∷ N ∷ eleven_tenths ∷ whole d.mant ∷ []) _ _ (search reads depth 20 fits 4000)
+    (fact S (whole-mul (pos 11) d.mant) (search reads depth 20 fits 4000)
+    (fact (whole (pos 11) *Q whole d.mant) less (search reads depth 20 fits 4000)
+    (fact (neg_Q (whole d.mant *Q T)) tenth (search reads depth 20 fits 4000) no_fact))) tt
+
+-- the zone is a ceiling
+pub zone_ceil : (d : Decimal) → IsCeil (value d *Q eleven_tenths *Q units 9) (zone d)
+unfolding zone
+zone_ceil d =
+    let same : value (times_1_1 d) *Q units 9 ≈ value d *Q eleven_tenths *Q units 9 =
+    linear (value (times_1_1 d) ∷ value d ∷ eleven_tenths ∷ units 9 ∷ []) _ _ (search reads depth 20 fits 4000) (fact (units 9) (value_times_1_1 d) (search reads depth 20 fits 4000) no_fact) tt in
+    ceil_same same (dec_ceil_is 9 (times_1_1 d))

@@ -1,10 +1,17 @@
 -- What is read of a word.
+<<<<<<< HEAD
 use Rattle.std.specs.Prelude.{◌≡◌, ◌⊎◌, ◌==◌, ◌&&◌, ◌||◌, ℕ, ℤ, pos, ◌+◌, ◌<◌, ◌≤◌, Bool, true, false, List, [], ◌∷◌, ◌++◌, length, drop, nat_le, nat_lt, int_le, neg_ℤ, Result, Ok, Err, Option, Some, None, not, refl, if◌then◌else◌}
 use Rattle.fixdec.specs.Decimal.{Decimal}
 use Rattle.fixdec.specs.Word.{Parts, Spells, IsWord, IsPlace, spelling, digits, significant, kept, IsReadable}
 pub use Rattle.fixdec.specs.Reading.{is_digit, digits_front, digits_after, is_sign, is_point, is_mark, unit_front, unit_after, Split, mantissa_front, power_front, has_power, is_whole, is_readable}
 unfoldable pub use Rattle.fixdec.specs.Reading.{split}
 use Rattle.fixdec.specs.Reading.{decimal_of}
+=======
+use Rattle.std.specs.Prelude.{◌≡◌, ℕ, ◌<◌, ◌≤◌, List, length, nat_lt, Result, Ok, Err, if◌then◌else◌}
+use Rattle.fixdec.specs.Decimal.{Decimal}
+use Rattle.fixdec.specs.Reading.{is_readable, split, is_whole}
+use Rattle.fixdec.specs.Word.{Parts, Spells, IsWord, IsPlace, spelling, significant, kept, IsReadable}
+>>>>>>> 4a271d0c261488efd20f4a4708a2fd9570bd597f
 use Rattle.exactdec.specs.declared.read.DecFault.{DecFault}
 use Rattle.exactdec.specs.declared.read.DecFault.TheVariants.{NotNumber, Digits, Exponent}
 
@@ -29,7 +36,11 @@ IsAnswer word (Err (NotNumber at)) = IsNotNumber word at
 IsAnswer word (Err Digits) = (p : Parts) × Spells word p × (30 < length (significant p))
 IsAnswer word (Err Exponent) = (p : Parts) × Spells word p × IsExponentFault p
 
+<<<<<<< HEAD
 -- The same as a function, which takes a word apart from the left.
+=======
+-- The same as a function.
+>>>>>>> 4a271d0c261488efd20f4a4708a2fd9570bd597f
 
 -- the answer to a word of these parts
 unfoldable pub judged : Parts → Result Decimal DecFault

@@ -1,7 +1,7 @@
 -- What the stages of reading give.
 use Rattle.std.specs.Prelude.{◌≡◌, ℕ, Bool, true, false, List, [], length}
 use Rattle.fixdec.specs.Word.{Parts, AreDigits, spelling}
-use Rattle.exactdec.specs.Reading.{split, is_whole}
+use Rattle.fixdec.specs.Reading.{split, is_whole}
 use Rattle.exactdec.specs.declared.read.DecFault.{DecFault}
 use Rattle.exactdec.specs.declared.read.DecFault.TheVariants.{NotNumber}
 use Rattle.exactdec.specs.declared.read.Parts.{Parts as Slices}

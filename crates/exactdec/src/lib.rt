@@ -6,4 +6,6 @@ mod mantissa;
 pub mod print;
 pub mod read;
 pub mod scale;
+#[cfg(test)]
+mod tests;
 pub mod zone;

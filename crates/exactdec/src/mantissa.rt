@@ -4,6 +4,7 @@ ghost use Rattle.std.specs.Prelude.{◌≡◌, ℕ, ◌+◌, ◌^◌, ◌<◌, �
 ghost use Rattle.fixdec.specs.Word.{IsDigit, AreDigits, signed as signed_number, number};
 
 const MINUS: u16 = 45;
+
 pub(crate) const ZERO: u16 = 48;
 
 /// The digits of a mantissa so far, from the first on that isn't 0.

@@ -1,11 +1,17 @@
 //! Decimal words.
 
 ghost use Rattle.std.specs.Prelude.{◌≡◌, ◌==◌, ℕ, ℤ, pos, ◌+◌, ◌-◌, ◌^◌, ◌<◌, ◌≤◌, ◌+ℤ◌, ◌-ℤ◌, Bool, true, false, List, [], ◌++◌, length, take, drop, IfOk, IfErr, MatchOption, nat_lt};
+ghost use Rattle.std.specs.Result.{result_ok};
 ghost use Rattle.fixdec.specs.Decimal.{value};
 ghost use Rattle.fixdec.specs.Frac.{◌≈◌};
 ghost use Rattle.fixdec.specs.Word.{Parts as Written, Spells, AreDigits, written, signed as signed_number, number};
+<<<<<<< HEAD
 ghost use Rattle.fixdec.specs.Reading.{decimal_of};
 ghost use Rattle.exactdec.specs.Reading.{IsAnswer, reading, ok_of, judged, is_digit as is_digit_unit, is_sign, is_point, is_mark, unit_front, unit_after, digits_front, digits_after, mantissa_front, is_readable};
+=======
+ghost use Rattle.fixdec.specs.Reading.{is_digit as is_digit_unit, is_sign, is_point, is_mark, unit_front, unit_after, digits_front, digits_after, mantissa_front, is_readable, decimal_of};
+ghost use Rattle.exactdec.specs.Reading.{IsAnswer, reading, judged};
+>>>>>>> 4a271d0c261488efd20f4a4708a2fd9570bd597f
 ghost use Rattle.exactdec.specs.Stages.{IsSplit, IsNotSplit, HasDigits, parts_of};
 
 use crate::mantissa::{Mantissa, ZERO, power_of, signed};
@@ -36,7 +42,11 @@ pub fn read(word: &[u16]) -> Result<Dec, DecFault>
     ensures answer { IsAnswer word.now result }
     // The same as a function of the word.
     ensures exact { result ≡ reading word.now }
+<<<<<<< HEAD
     ensures decimal { decimal_of word.now ≡ ok_of result }
+=======
+    ensures decimal { result_ok result ≡ decimal_of word.now }
+>>>>>>> 4a271d0c261488efd20f4a4708a2fd9570bd597f
     // Whatever zeros it is written with, the value is mantissa times power of ten.
     ensures value { IfOk result (λ d. (p : Written) → Spells word.now p → value d ≈ value (written p)) }
 {
@@ -47,14 +57,18 @@ pub fn read(word: &[u16]) -> Result<Dec, DecFault>
 /// A word has its parts in one way only.
 pub fn one_spelling()
     ensures { (word : List ℕ) (p q : Written) → Spells word p → Spells word q → p ≡ q }
-{
-}
+{}
 
 const PLUS: u16 = 43;
+
 const MINUS: u16 = 45;
+
 const POINT: u16 = 46;
+
 const NINE: u16 = 57;
+
 const CAPITAL_E: u16 = 69;
+
 const SMALL_E: u16 = 101;
 
 /// The parts of a word that its value is made of.
@@ -121,8 +135,14 @@ impl<'a> Front<'a> {
 
     fn with_power(self, power_sign: &'a [u16], power: &'a [u16]) -> Parts<'a>
         ensures { parts_of result ≡ record {
-            sign = self.entry.sign.now; whole = self.entry.whole.now; point = []; part = self.entry.part.now;
-            mark = []; power_sign = power_sign.now; power = power.now } }
+          sign = self.entry.sign.now;
+          whole = self.entry.whole.now;
+          point = [];
+          part = self.entry.part.now;
+          mark = [];
+          power_sign = power_sign.now;
+          power = power.now;
+        } }
     {
         Parts {
             sign: self.sign,
@@ -238,10 +258,8 @@ fn judge(parts: &Parts<'_>) -> Result<Dec, DecFault>
 /// from -60 to 30.
 fn exponent_of(parts: &Parts<'_>, zeros: usize) -> Option<i32>
     requires { AreDigits parts.now.power.now }
-    ensures {
-        let exp = signed_number parts.now.power_sign.now (number parts.now.power.now) -ℤ pos (length parts.now.part.now) +ℤ pos zeros in
-        MatchOption result (is_readable exp ≡ false) (λ r. (r ≡ exp) × (is_readable exp ≡ true))
-    }
+    ensures { let exp = signed_number parts.now.power_sign.now (number parts.now.power.now) -ℤ pos (length parts.now.part.now) +ℤ pos zeros in
+        MatchOption result (is_readable exp ≡ false) (λ r. (r ≡ exp) × (is_readable exp ≡ true)) }
 {
     let power = signed(parts.power_sign, power_of(parts.power));
     let digits = parts.part.len();

@@ -4,8 +4,9 @@ ghost use Rattle.std.specs.Prelude.{◌≡◌, ℕ, ℤ, pos, ◌<◌, ◌≤◌
 ghost use Rattle.fixdec.specs.Decimal.{value, ten_power};
 ghost use Rattle.fixdec.specs.Frac.{◌≈◌, ◌*Q◌};
 ghost use Rattle.fixdec.specs.Interval.{ends as ends_in_cap, fits_cap};
-ghost use Rattle.fixdec.specs.Member.{IsMember};
-ghost use Rattle.fixdec.specs.Scaled.{dec_span, dec_shifted, floor_times, ceil_times};
+ghost use Rattle.fixdec.specs.Member.{IsMember, units};
+ghost use Rattle.fixdec.specs.Rounding.{IsFloor, IsCeil};
+ghost use Rattle.fixdec.specs.Scaled.{dec_floor, dec_ceil, dec_span, dec_shifted, floor_times, ceil_times};
 ghost use Rattle.fixdec.specs.Steps.{OnVal};
 ghost use Rattle.fixdec.specs.Word.{IsReadable};
 
@@ -19,6 +20,9 @@ use fixdec::step::{Step, Why};
 pub fn span(v: &Dec, scale: u32) -> Step<Span>
     requires { scale ≤ 15 }
     ensures value { result ≡ dec_span scale v.now }
+    // The two ends are the floor and the ceiling of the value in units of the scale.
+    ensures floor { IsFloor (value v.now *Q units scale) (dec_floor scale v.now) }
+    ensures ceiling { IsCeil (value v.now *Q units scale) (dec_ceil scale v.now) }
     ensures member { OnVal result (λ s. IsMember scale s (value v.now)) }
 {
     ends(v.mant, v.exp + scale as i32)

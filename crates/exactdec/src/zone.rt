@@ -1,7 +1,11 @@
 //! The zone of a semi-diameter, and the power of ten that it is brought to.
 
 ghost use Rattle.std.specs.Prelude.{◌≡◌, ℕ, ℤ, pos, ◌≤◌, ◌^◌, ◌≤ℤ◌, ◌<ℤ◌, neg_ℤ, IfSome};
-ghost use Rattle.fixdec.specs.Zone.{zone_span, IsZone, norm, least_power, IsNorm};
+ghost use Rattle.fixdec.specs.Decimal.{value};
+ghost use Rattle.fixdec.specs.Frac.{◌*Q◌};
+ghost use Rattle.fixdec.specs.Member.{units};
+ghost use Rattle.fixdec.specs.Rounding.{IsCeil};
+ghost use Rattle.fixdec.specs.Zone.{zone, zone_span, eleven_tenths, IsZone, norm, least_power, IsNorm};
 
 use crate::scale::ends;
 use fixdec::dec::Dec;
@@ -15,6 +19,8 @@ const ZONE_LIMIT: i128 = 1_000_000_000_000;
 /// number at scale 9. None where the semi-diameter isn't above 0 or the zone is above 1000.
 pub fn zone_of(semi: &Dec) -> Option<Span>
     ensures value { result ≡ zone_span semi.now }
+    // The zone is 1.1 times the semi-diameter, rounded up.
+    ensures rounded { IsCeil (value semi.now *Q eleven_tenths *Q units 9) (zone semi.now) }
     ensures range { IfSome result (λ zone. IsZone zone) }
 {
     if semi.mant <= 0 {

@@ -16,9 +16,10 @@ use Rattle.fixdec.specs.IntLaws.{ringℤ}
 use Rattle.fixdec.specs.Interval.{ends, fits_cap}
 use Rattle.fixdec.specs.Linear.{linear, fact, no_fact, reads}
 use Rattle.fixdec.specs.Member.{IsMember, units}
-use Rattle.fixdec.specs.Order.{along, le_of_same, le_trans}
+use Rattle.fixdec.specs.Order.{along, le_of_same, le_refl, le_trans, le_whole_out}
 use Rattle.fixdec.specs.Ring.{var, con, ◌⊗◌}
-use Rattle.fixdec.specs.Rounding.{floor, ceil, floor_below, ceil_above}
+use Rattle.fixdec.specs.Rounding.{floor, ceil, ratio, IsFloor, IsCeil}
+use Rattle.fixdec.specs.RoundingLaws.{ratio_is, floor_is, ceil_is}
 use Rattle.fixdec.specs.Scaled.{floor_times, ceil_times, dec_floor, dec_ceil, dec_span, dec_shifted}
 use Rattle.fixdec.specs.Steps.{OnVal}
 use Rattle.fixdec.specs.declared.step.Step.TheVariants.{Val, Lost}
@@ -103,28 +104,59 @@ value-zero m e f h =
     linear (whole m ∷ ten_power e ∷ ten_power f ∷ []) _ _ (search reads depth 20 fits 4000)
     (fact (ten_power e -Q ten_power f) zero (search reads depth 20 fits 4000) no_fact) tt
 
--- floor and ceiling enclose
-pub floor_times_below : (m k : ℤ) → whole (floor_times m k) ≤Q whole m *Q ten_power k
-floor_times_below m (pos k) = le_of_same (whole-mul m (pos (10 ^ k)))
-floor_times_below m (negsuc k) = le_if (is_whole (floor m (pos (10 ^ suc k)))) (is_mul (is_whole m) (is_tenth (suc k)))
-    (let below = rw power_above at (floor_below m (10 ^ suc k - 1)) in omega (arith, ints))
+pub floor_same : {x y : Frac} {z : ℤ} → x ≈ y → IsFloor x z → IsFloor y z
+floor_same e h = record { below = le_trans h.below (le_of_same e); greatest = λ y l. h.greatest y (le_trans l (le_of_same (≈_sym e))) }
 
-pub ceil_times_above : (m k : ℤ) → whole m *Q ten_power k ≤Q whole (ceil_times m k)
-ceil_times_above m (pos k) = le_of_same (≈_sym (whole-mul m (pos (10 ^ k))))
-ceil_times_above m (negsuc k) = le_if (is_mul (is_whole m) (is_tenth (suc k))) (is_whole (ceil m (pos (10 ^ suc k))))
-    (let above = rw power_above at (ceil_above m (10 ^ suc k - 1)) in omega (arith, ints))
+pub ceil_same : {x y : Frac} {z : ℤ} → x ≈ y → IsCeil x z → IsCeil y z
+ceil_same e h = record { above = le_trans (le_of_same (≈_sym e)) h.above; least = λ y l. h.least y (le_trans (le_of_same e) l) }
+
+floor_whole : (z : ℤ) → IsFloor (whole z) z
+floor_whole z = record { below = le_refl (whole z); greatest = λ y l. le_whole_out l }
+
+ceil_whole : (z : ℤ) → IsCeil (whole z) z
+ceil_whole z = record { above = le_refl (whole z); least = λ y l. le_whole_out l }
+
+power_not_zero : (k : ℕ) → pos (10 ^ k) ≡ pos 0 → ⊥
+power_not_zero k h = let p = one-le-pow k 10 (omega arith) in absurd (omega (arith, ints))
+
+-- a quotient by a power of ten
+ratio_power : (m : ℤ) (k : ℕ) → ratio m (pos (10 ^ suc k)) ≈ whole m *Q ten_power (negsuc k)
+ratio_power m k =
+    let R = ratio m (pos (10 ^ suc k)) in
+    let T = ten_power (negsuc k) in
+    let D = whole (pos (10 ^ suc k)) in
+    cancel_power R (whole m *Q T) (suc k)
+    (linear (R ∷ T ∷ D ∷ whole m ∷ []) _ _ (search reads depth 20 fits 4000)
+      (fact (whole (pos 1)) (ratio_is m (pos (10 ^ suc k)) (power_not_zero (suc k))) (search reads depth 20 fits 4000)
+        (fact (neg_Q (whole m)) (ten_power_is (negsuc k) 0 (suc k) (omega (arith, ints))) (search reads depth 20 fits 4000) no_fact)) tt)
+
+-- rounded products by powers of ten are floors and ceilings
+pub floor_times_is : (m k : ℤ) → IsFloor (whole m *Q ten_power k) (floor_times m k)
+floor_times_is m (pos k) = floor_same (whole-mul m (pos (10 ^ k))) (floor_whole (m *ℤ pos (10 ^ k)))
+floor_times_is m (negsuc k) = floor_same (ratio_power m k) (floor_is m (pos (10 ^ suc k)) (power_not_zero (suc k)))
+
+pub ceil_times_is : (m k : ℤ) → IsCeil (whole m *Q ten_power k) (ceil_times m k)
+ceil_times_is m (pos k) = ceil_same (whole-mul m (pos (10 ^ k))) (ceil_whole (m *ℤ pos (10 ^ k)))
+ceil_times_is m (negsuc k) = ceil_same (ratio_power m k) (ceil_is m (pos (10 ^ suc k)) (power_not_zero (suc k)))
+
+-- the value of a decimal in units of a scale
+value-units : (scale : ℕ) (d : Decimal) → value d *Q units scale ≈ whole d.mant *Q ten_power (d.exp +ℤ pos scale)
+value-units scale d =
+    linear (whole d.mant ∷ ten_power d.exp ∷ units scale ∷ ten_power (d.exp +ℤ pos scale) ∷ []) _ _ (search reads depth 20 fits 4000)
+    (fact (neg_Q (whole d.mant)) (ten_power-add d.exp (pos scale)) (search reads depth 20 fits 4000) no_fact) tt
+
+-- the ends of its span are its floor and its ceiling there
+pub dec_floor_is : (scale : ℕ) (d : Decimal) → IsFloor (value d *Q units scale) (dec_floor scale d)
+unfolding dec_floor
+dec_floor_is scale d = floor_same (≈_sym (value-units scale d)) (floor_times_is d.mant (d.exp +ℤ pos scale))
+
+pub dec_ceil_is : (scale : ℕ) (d : Decimal) → IsCeil (value d *Q units scale) (dec_ceil scale d)
+unfolding dec_ceil
+dec_ceil_is scale d = ceil_same (≈_sym (value-units scale d)) (ceil_times_is d.mant (d.exp +ℤ pos scale))
 
 -- the value of a decimal lies between its floor and its ceiling at a scale
 pub value_between : (scale : ℕ) (d : Decimal) → IsMember scale (record { lo = dec_floor scale d; hi = dec_ceil scale d }) (value d)
-unfolding dec_floor dec_ceil
-value_between scale d =
-    let at_scale : value d *Q units scale ≈ whole d.mant *Q ten_power (d.exp +ℤ pos scale) =
-    linear (whole d.mant ∷ ten_power d.exp ∷ units scale ∷ ten_power (d.exp +ℤ pos scale) ∷ []) _ _ (search reads depth 20 fits 4000)
-    (fact (neg_Q (whole d.mant)) (ten_power-add d.exp (pos scale)) (search reads depth 20 fits 4000) no_fact) tt in
-    record {
-      low = le_trans (floor_times_below d.mant (d.exp +ℤ pos scale)) (le_of_same (≈_sym at_scale));
-      high = le_trans (le_of_same at_scale) (ceil_times_above d.mant (d.exp +ℤ pos scale));
-    }
+value_between scale d = record { low = (dec_floor_is scale d).below; high = (dec_ceil_is scale d).above }
 
 false_from_not : (b : Bool) → (b ≡ true → ⊥) → b ≡ false
 false_from_not true h = absurd (h refl)

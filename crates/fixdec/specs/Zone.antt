@@ -9,6 +9,9 @@ use Rattle.fixdec.specs.Scaled.{dec_ceil}
 abbrev pub times_1_1 : Decimal → Decimal
 times_1_1 d = record { mant = pos 11 *ℤ d.mant; exp = d.exp -ℤ pos 1 }
 
+abbrev pub eleven_tenths : Frac
+eleven_tenths = record { num = pos 11; less = 9 }
+
 -- 1.1 times the semi-diameter, rounded up to a multiple of 10^-9, in such units
 unfoldable pub zone : Decimal → ℤ
 zone semi = dec_ceil 9 (times_1_1 semi)

@@ -11,7 +11,7 @@ pub push_digit-requires-clause-room : goal.push_digit-requires-clause-room
 push_digit-requires-clause-room t c =
     room_behind c.args.n _ _
     (elim c.if-n-ge10.branch [
-      then-n-ge10 w ↦ more_digits c.args.n c.args.out.now.bytes _ w.if-n-ge10.true c.ranges.n.fits (ap (λ (s : ArrayString). s.bytes) w.out-is ∙ w.push_number.ensures)
+      | then-n-ge10 w ↦ more_digits c.args.n c.args.out.now.bytes _ w.if-n-ge10.true c.ranges.n.fits (ap (λ (s : ArrayString). s.bytes) w.out-is ∙ w.push_number.ensures)
       | else-n-ge10 w ↦ one_digit c.args.n c.args.out.now.bytes _ w.if-n-ge10.false (ap (λ (s : ArrayString). s.bytes) w.out-is)
     ])
     c.requires
@@ -20,6 +20,6 @@ pub returns : goal.returns
 returns t c =
     c.push_digit.ensures
     ∙ elim c.if-n-ge10.branch [
-      then-n-ge10 w ↦ more_digits c.args.n _ _ w.if-n-ge10.true c.ranges.n.fits (ap (λ (s : ArrayString). s.bytes) w.out-is ∙ w.push_number.ensures)
+      | then-n-ge10 w ↦ more_digits c.args.n _ _ w.if-n-ge10.true c.ranges.n.fits (ap (λ (s : ArrayString). s.bytes) w.out-is ∙ w.push_number.ensures)
       | else-n-ge10 w ↦ one_digit c.args.n _ _ w.if-n-ge10.false (ap (λ (s : ArrayString). s.bytes) w.out-is)
     ]

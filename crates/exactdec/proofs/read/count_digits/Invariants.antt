@@ -1,5 +1,5 @@
 use Rattle.std.proofs.Common.{◌≡◌, ◌++◌, take, drop}
-use Rattle.exactdec.specs.Reading.{digits_front, digits_after}
+use Rattle.fixdec.specs.Reading.{digits_front, digits_after}
 use Rattle.exactdec.proofs.read.count_digits.Given as goal
 
 -- the units so far are digits

@@ -34,7 +34,7 @@ invariant_of-result-2 c =
     let exp_fits = fits_exponent c.in-Some.exp _ c.in-Some.ensures in
     simp to_z-of_z
     (kept_type p m.value m.kept m.seen c.signed.result c.in-Some.exp (digits_both p.whole p.part c.requires.whole c.requires.part)
-      c.if-mantissa-gt30.false c.if-mantissa-eq0.false (m.bounded c.if-mantissa-gt30.false) c.of-mantissa.ensures c.signed.ensures c.in-Some.ensures.0 c.in-Some.ensures.1)
+    c.if-mantissa-gt30.false c.if-mantissa-eq0.false (m.bounded c.if-mantissa-gt30.false) c.of-mantissa.ensures c.signed.ensures c.in-Some.ensures.0 c.in-Some.ensures.1)
 
 pub returns : goal.returns
 returns c =
@@ -44,4 +44,4 @@ returns c =
     let exp_fits = fits_exponent c.in-Some.exp _ c.in-Some.ensures in
     simp to_z-of_z
     (kept_steps p m.value m.kept m.seen c.signed.result c.in-Some.exp
-      c.if-mantissa-gt30.false c.if-mantissa-eq0.false c.of-mantissa.ensures c.signed.ensures c.in-Some.ensures.0 c.in-Some.ensures.1)
+    c.if-mantissa-gt30.false c.if-mantissa-eq0.false c.of-mantissa.ensures c.signed.ensures c.in-Some.ensures.0 c.in-Some.ensures.1)

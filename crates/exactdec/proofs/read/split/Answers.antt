@@ -48,5 +48,5 @@ returns-clause-found c =
     let d = c.split_digits.ensures in
     subst (λ (p : Parts). IsSplit c.args.word.now p) (sym c.with_power-2.ensures)
     (power_found c.args.word.now _ _ _ _ _ _ _ _ _ _ (record { sign_is = f.sign; whole_is = f.whole; part_is = f.part; rest_is = f.rest })
-      (record { mark_is = m.front; after_is = m.after; sign_is = s.front; behind_is = s.after; power_is = d.front; end_is = d.after })
-      c.if-not-has_digits.ensures c.if-is_empty.ensures (all_read _ _ c.if-is_empty-2.ensures c.if-not-is_empty-2.ensures))
+    (record { mark_is = m.front; after_is = m.after; sign_is = s.front; behind_is = s.after; power_is = d.front; end_is = d.after })
+    c.if-not-has_digits.ensures c.if-is_empty.ensures (all_read _ _ c.if-is_empty-2.ensures c.if-not-is_empty-2.ensures))

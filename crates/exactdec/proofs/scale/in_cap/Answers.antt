@@ -17,9 +17,9 @@ returns-else-is_in_cap c =
     let low = c.ranges.lo in
     let high = c.ranges.hi in
     elim c.else-is_in_cap.branch [
-      else-is_in_cap-via-then-is_in_cap+else-is_in_cap-2 w ↦
-        let lo_fits = w.if-is_in_cap.ensures in
-        let hi_past = w.if-is_in_cap-2.ensures in
-        sym (ends_lost_hi c.args.lo c.args.hi (sym (simp to_z-of_z at lo_fits)) (sym (simp to_z-of_z at hi_past)))
+      | else-is_in_cap-via-then-is_in_cap+else-is_in_cap-2 w ↦
+          let lo_fits = w.if-is_in_cap.ensures in
+          let hi_past = w.if-is_in_cap-2.ensures in
+          sym (ends_lost_hi c.args.lo c.args.hi (sym (simp to_z-of_z at lo_fits)) (sym (simp to_z-of_z at hi_past)))
       | else-is_in_cap-via-else-is_in_cap w ↦ let lo_past = w.if-is_in_cap.ensures in sym (ends_lost_lo c.args.lo c.args.hi (sym (simp to_z-of_z at lo_past)))
     ]

@@ -5,7 +5,7 @@ use Rattle.std.specs.Prelude.{◌+ℤ◌, FitsSigned}
 use Rattle.fixdec.specs.Decimal.{Decimal, value}
 use Rattle.fixdec.specs.Ends.{Ends}
 use Rattle.fixdec.specs.Member.{IsMember}
-use Rattle.fixdec.specs.PowerLaws.{dec_span_member}
+use Rattle.fixdec.specs.PowerLaws.{dec_span_member, dec_floor_is, dec_ceil_is}
 use Rattle.fixdec.specs.Scaled.{dec_span, dec_floor, dec_ceil}
 use Rattle.fixdec.specs.Steps.{OnVal}
 use Rattle.fixdec.specs.declared.step.Step.{Step}
@@ -26,3 +26,9 @@ returns-clause-value c =
 pub returns-clause-member : goal.returns-clause-member
 returns-clause-member c =
     subst (λ (s : Step Ends). OnVal s (λ r. IsMember c.args.scale r (value c.args.v.now))) (sym (returns-clause-value c)) (dec_span_member c.args.scale c.args.v.now)
+
+pub returns-clause-floor : goal.returns-clause-floor
+returns-clause-floor c = dec_floor_is c.args.scale c.args.v.now
+
+pub returns-clause-ceiling : goal.returns-clause-ceiling
+returns-clause-ceiling c = dec_ceil_is c.args.scale c.args.v.now

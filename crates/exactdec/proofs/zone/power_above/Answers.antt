@@ -24,4 +24,3 @@ pub returns-clause-value : goal.returns-clause-value
 returns-clause-value c =
     let end : c.loop-k.k ≡ 24 = omega arith in
     sym (ap (λ (k : ℕ). least_power c.args.zone (24 - k) k) end ∙ least_power-last c.args.zone 24) ∙ c.loop-k.invariant
-

@@ -9,7 +9,7 @@ use Rattle.fixdec.specs.declared.step.Step.{Step}
 use Rattle.fixdec.specs.declared.step.Step.TheVariants.{Val}
 use Rattle.exactdec.proofs.Texts.{fits_mant, fits_exp}
 use Rattle.exactdec.proofs.Spans.{fits_sum}
-use Rattle.exactdec.proofs.Zones.{none_at_most, none_lost, none_above, some_zone, zone_range, fits_eleven, fits_cap_hi}
+use Rattle.exactdec.proofs.Zones.{none_at_most, none_lost, none_above, some_zone, zone_range, zone_ceil, fits_eleven, fits_cap_hi}
 use Rattle.exactdec.proofs.zone.zone_of.Goals as goal
 
 abbrev kept : Ends → Step Ends
@@ -67,3 +67,15 @@ returns-clause-range c =
     let answer = c.in-Val.ensures in
     let above = c.if-zone-gt-ZONE_LIMIT.false in
     simp to_z-of_z (zone_range (record { mant = c.semi.inside.mant; exp = c.semi.inside.exp }) (record { lo = c.zone.inside.lo; hi = c.zone.inside.hi }) (simp to_z-of_z at test) (ap (λ (s : Ends). kept s) c.zone.view_is ∙ simp to_z-of_z at answer) (simp to_z-of_z at above))
+
+pub returns-then-semi-le0-clause-rounded : goal.returns-then-semi-le0-clause-rounded
+returns-then-semi-le0-clause-rounded c = zone_ceil c.args.semi.now
+
+pub returns-in_default-clause-rounded : goal.returns-in_default-clause-rounded
+returns-in_default-clause-rounded c = zone_ceil c.args.semi.now
+
+pub returns-then-zone-gt-ZONE_LIMIT-clause-rounded : goal.returns-then-zone-gt-ZONE_LIMIT-clause-rounded
+returns-then-zone-gt-ZONE_LIMIT-clause-rounded c = zone_ceil c.args.semi.now
+
+pub returns-clause-rounded : goal.returns-clause-rounded
+returns-clause-rounded c = zone_ceil c.args.semi.now

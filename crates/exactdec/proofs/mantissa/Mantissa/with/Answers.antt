@@ -7,9 +7,9 @@ pub invariant_of-result : goal.invariant_of-result
 invariant_of-result c = record {
   ordered = omega arith;
   bounded = λ l.
-    let m = c.args.self in
-    let fits : m.value < 10 ^ m.kept = m.bounded (let o = m.ordered in omega arith) in
-    rw (c.value_with.ensures (omega arith)) (with_digit_below m.value m.kept m.seen c.args.digit fits m.ordered c.requires.digit);
+      let m = c.args.self in
+      let fits : m.value < 10 ^ m.kept = m.bounded (let o = m.ordered in omega arith) in
+      rw (c.value_with.ensures (omega arith)) (with_digit_below m.value m.kept m.seen c.args.digit fits m.ordered c.requires.digit);
 }
 
 pub returns-clause-holds : goal.returns-clause-holds
