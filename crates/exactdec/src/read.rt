@@ -5,13 +5,8 @@ ghost use Rattle.std.specs.Result.{result_ok};
 ghost use Rattle.fixdec.specs.Decimal.{value};
 ghost use Rattle.fixdec.specs.Frac.{◌≈◌};
 ghost use Rattle.fixdec.specs.Word.{Parts as Written, Spells, AreDigits, written, signed as signed_number, number};
-<<<<<<< HEAD
-ghost use Rattle.fixdec.specs.Reading.{decimal_of};
-ghost use Rattle.exactdec.specs.Reading.{IsAnswer, reading, ok_of, judged, is_digit as is_digit_unit, is_sign, is_point, is_mark, unit_front, unit_after, digits_front, digits_after, mantissa_front, is_readable};
-=======
 ghost use Rattle.fixdec.specs.Reading.{is_digit as is_digit_unit, is_sign, is_point, is_mark, unit_front, unit_after, digits_front, digits_after, mantissa_front, is_readable, decimal_of};
 ghost use Rattle.exactdec.specs.Reading.{IsAnswer, reading, judged};
->>>>>>> 4a271d0c261488efd20f4a4708a2fd9570bd597f
 ghost use Rattle.exactdec.specs.Stages.{IsSplit, IsNotSplit, HasDigits, parts_of};
 
 use crate::mantissa::{Mantissa, ZERO, power_of, signed};
@@ -42,11 +37,7 @@ pub fn read(word: &[u16]) -> Result<Dec, DecFault>
     ensures answer { IsAnswer word.now result }
     // The same as a function of the word.
     ensures exact { result ≡ reading word.now }
-<<<<<<< HEAD
-    ensures decimal { decimal_of word.now ≡ ok_of result }
-=======
     ensures decimal { result_ok result ≡ decimal_of word.now }
->>>>>>> 4a271d0c261488efd20f4a4708a2fd9570bd597f
     // Whatever zeros it is written with, the value is mantissa times power of ten.
     ensures value { IfOk result (λ d. (p : Written) → Spells word.now p → value d ≈ value (written p)) }
 {

@@ -1,7 +1,7 @@
 use Rattle.std.proofs.Common.{sym, subst, ◌∙◌, ap}
 use Rattle.std.proofs.lemmas.Result.{err_from_is_err_and}
 use Rattle.fixdec.specs.Word.{Parts}
-use Rattle.exactdec.specs.Reading.{judged, ok_of, decimal_of-reading}
+use Rattle.exactdec.specs.Reading.{judged}
 use Rattle.exactdec.specs.Stages.{HasDigits, parts_of}
 use Rattle.exactdec.proofs.Readings.{reading_fault, reading_parts, parts_digits, answer_of, value_of, decimal_from}
 use Rattle.exactdec.proofs.read.read.Goals as goal
@@ -27,14 +27,7 @@ pub returns-clause-value : goal.returns-clause-value
 returns-clause-value c = value_of c.args.word.now c.judge.result (returns-clause-exact c)
 
 pub returns-in_err-parts-clause-decimal : goal.returns-in_err-parts-clause-decimal
-<<<<<<< HEAD
-returns-in_err-parts-clause-decimal c = decimal_of-reading c.args.word.now ∙ ap ok_of (sym (returns-in_err-parts-clause-exact c))
-
-pub returns-clause-decimal : goal.returns-clause-decimal
-returns-clause-decimal c = decimal_of-reading c.args.word.now ∙ ap ok_of (sym (returns-clause-exact c))
-=======
 returns-in_err-parts-clause-decimal c = decimal_from c.args.word.now c.from_residual.result (returns-in_err-parts-clause-exact c)
 
 pub returns-clause-decimal : goal.returns-clause-decimal
 returns-clause-decimal c = decimal_from c.args.word.now c.judge.result (returns-clause-exact c)
->>>>>>> 4a271d0c261488efd20f4a4708a2fd9570bd597f
