@@ -127,8 +127,8 @@ ratio_power m k =
     let D = whole (pos (10 ^ suc k)) in
     cancel_power R (whole m *Q T) (suc k)
     (linear (R ∷ T ∷ D ∷ whole m ∷ []) _ _ (search reads depth 20 fits 4000)
-      (fact (whole (pos 1)) (ratio_is m (pos (10 ^ suc k)) (power_not_zero (suc k))) (search reads depth 20 fits 4000)
-        (fact (neg_Q (whole m)) (ten_power_is (negsuc k) 0 (suc k) (omega (arith, ints))) (search reads depth 20 fits 4000) no_fact)) tt)
+    (fact (whole (pos 1)) (ratio_is m (pos (10 ^ suc k)) (power_not_zero (suc k))) (search reads depth 20 fits 4000)
+    (fact (neg_Q (whole m)) (ten_power_is (negsuc k) 0 (suc k) (omega (arith, ints))) (search reads depth 20 fits 4000) no_fact)) tt)
 
 -- rounded products by powers of ten are floors and ceilings
 pub floor_times_is : (m k : ℤ) → IsFloor (whole m *Q ten_power k) (floor_times m k)

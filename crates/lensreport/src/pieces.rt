@@ -33,7 +33,13 @@ pub fn push_number(n: u32, out: &mut Line)
     ensures bytes { out.new.bytes ≡ out.old.bytes ++ decimal n }
     ensures len { array_string_len out.new ≤ array_string_len out.old + 64 }
 {
-    push_decimal(&Dec { mant: i128::from(n), exp: 0 }, out);
+    push_decimal(
+        &Dec {
+            mant: i128::from(n),
+            exp: 0,
+        },
+        out,
+    );
 }
 
 /// Appends a raw number at a scale from 1 to 15, of at most 64 bytes.
@@ -70,7 +76,11 @@ fn printed(unit: u16) -> u8
     ensures value { result ≡ unit_byte unit }
     ensures ascii { result < 128 }
 {
-    if 33 <= unit && unit <= 126 { unit as u8 } else { b'?' }
+    if 33 <= unit && unit <= 126 {
+        unit as u8
+    } else {
+        b'?'
+    }
 }
 
 /// Appends one byte of ASCII.

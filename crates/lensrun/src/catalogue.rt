@@ -1,7 +1,7 @@
 //! Catalogues of the form that is read so far: ASCII text of NM and CD records of formulas 1 and 2.
 
-use arrayvec::ArrayVec;
 use crate::words::units;
+use arrayvec::ArrayVec;
 use exactdec::read;
 use fixdec::dec::Dec;
 use lensmodel::glass::Glass;
@@ -78,7 +78,11 @@ fn coefficient(line: &[u8], number: usize) -> Result<Dec, Unbuilt> {
 
 /// The unit with the ASCII letters in upper case.
 fn upper(unit: u16) -> u16 {
-    if 97 <= unit && unit <= 122 { unit - 32 } else { unit }
+    if 97 <= unit && unit <= 122 {
+        unit - 32
+    } else {
+        unit
+    }
 }
 
 /// Whether two names are equal after ASCII upper-casing.
@@ -138,7 +142,15 @@ impl Search {
             Block::Other => Ok(()),
             Block::Wanted => {
                 if let Some(glass) = self.found.take() {
-                    self.found = Some(Glass { c0, c1, c2, c3, c4, c5, ..glass });
+                    self.found = Some(Glass {
+                        c0,
+                        c1,
+                        c2,
+                        c3,
+                        c4,
+                        c5,
+                        ..glass
+                    });
                 }
                 Ok(())
             }

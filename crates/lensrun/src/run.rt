@@ -17,7 +17,9 @@ use lensmodel::fault::CrossFault;
 use lensmodel::glass::{Glass, Medium};
 use lensmodel::name::Name;
 use lensmodel::status::{FileKind, Status};
-use lensreport::faults::{print_absent, print_cross_fault, print_read_fault, print_too_long, print_usage};
+use lensreport::faults::{
+    print_absent, print_cross_fault, print_read_fault, print_too_long, print_usage,
+};
 use lensreport::index::print_index;
 use lensreport::pieces::Line;
 use sagform::index;
@@ -41,7 +43,10 @@ struct Answer {
 impl Answer {
     /// No text.
     fn silent(status: Status) -> Answer {
-        Answer { status, text: Line::new() }
+        Answer {
+            status,
+            text: Line::new(),
+        }
     }
 }
 
@@ -70,14 +75,20 @@ fn unread(fault: SlurpFault) -> Answer {
 fn crossed(fault: CrossFault) -> Answer {
     let mut text = Line::new();
     print_cross_fault(fault, &mut text);
-    Answer { status: Status::Refused, text }
+    Answer {
+        status: Status::Refused,
+        text,
+    }
 }
 
 /// A catalogue of a form that isn't read yet.
 fn unbuilt() -> Answer {
     let mut text = Line::new();
     text.push_str("refused agf unbuilt\n");
-    Answer { status: Status::Refused, text }
+    Answer {
+        status: Status::Refused,
+        text,
+    }
 }
 
 /// The index of a glass at scale 12, with the residual one unit; None where it isn't enclosed
@@ -92,7 +103,11 @@ fn good_index(glass: Glass, wave: &Dec) -> Option<Span> {
     match index::index::<Iv<12>>(&Medium::Of(glass), wave, 1) {
         Step::Val(n) => {
             let n = n.hull();
-            if ONE <= n.lo && n.hi <= 5 * ONE { Some(n) } else { None }
+            if ONE <= n.lo && n.hi <= 5 * ONE {
+                Some(n)
+            } else {
+                None
+            }
         }
         _ => None,
     }
@@ -109,7 +124,10 @@ fn answer_index(bytes: &[u8], glass: &Name, wave: &Dec) -> Answer {
         Some(n) => {
             let mut text = Line::new();
             print_index(&found.name, wave, n, &mut text);
-            Answer { status: Status::Done, text }
+            Answer {
+                status: Status::Done,
+                text,
+            }
         }
         None => crossed(CrossFault::BadIndex { surface: 0 }),
     }
@@ -121,9 +139,18 @@ fn answer_of<F: Shelf>(alloc: Global, words: &[Vec<u8>], shelf: &mut F) -> Answe
         None => {
             let mut text = Line::new();
             print_usage(&mut text);
-            Answer { status: Status::Usage, text }
+            Answer {
+                status: Status::Usage,
+                text,
+            }
         }
-        Some(Command::Index { catalogue, glass, wave }) => match slurp(alloc, shelf, catalogue) {
+        Some(
+            Command::Index {
+                catalogue,
+                glass,
+                wave,
+            },
+        ) => match slurp(alloc, shelf, catalogue) {
             Ok(bytes) => answer_index(bytes.as_slice(), &glass, &wave),
             Err(fault) => unread(fault),
         },
@@ -133,7 +160,13 @@ fn answer_of<F: Shelf>(alloc: Global, words: &[Vec<u8>], shelf: &mut F) -> Answe
 /// Does what the words ask: reads the files from the shelf, checks them, and writes the report to
 /// the sink. On every status but `Done`, `WriteFault` and `Memory` the text is one fault line; with
 /// `Memory` nothing is written. Each prepared surface counts a step.
-pub fn run<F: Shelf, K: Sink, L: Ledger>(alloc: Global, words: &[Vec<u8>], shelf: &mut F, out: &mut K, steps: &mut Steps<L>) -> Status
+pub fn run<F: Shelf, K: Sink, L: Ledger>(
+    alloc: Global,
+    words: &[Vec<u8>],
+    shelf: &mut F,
+    out: &mut K,
+    steps: &mut Steps<L>,
+) -> Status
     ensures prepared { steps.new ≡ steps.old }
 {
     let _steps = steps;

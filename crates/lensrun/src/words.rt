@@ -41,11 +41,13 @@ fn positive(word: &[u8]) -> Option<Dec> {
 /// The command that the words ask for; None where they fit no command.
 pub fn command_of(words: &[Vec<u8>]) -> Option<Command<'_>> {
     match words {
-        [name, catalogue, glass, wave] if name.as_slice() == b"index".as_slice() => Some(Command::Index {
-            catalogue: catalogue.as_slice(),
-            glass: units(glass.as_slice())?,
-            wave: positive(wave.as_slice())?,
-        }),
+        [name, catalogue, glass, wave] if name.as_slice() == b"index".as_slice() => Some(
+            Command::Index {
+                catalogue: catalogue.as_slice(),
+                glass: units(glass.as_slice())?,
+                wave: positive(wave.as_slice())?,
+            },
+        ),
         _ => None,
     }
 }

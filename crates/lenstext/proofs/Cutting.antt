@@ -101,7 +101,7 @@ Kept-line us units ends start line end k some after within narrow first sound =
       unit_count = omega arith;
       end_count = omega arith;
       few = omega arith;
-      near = omega arith
+      near = omega arith;
     }
 
 pub Kept-push : (us units ends : List ℕ) (start : ℕ) (more_units more_ends : List ℕ) (end : ℕ) → Kept us units ends start → start < length us → start ≤ end → end ≤ length us → more_units ≡ units ++ slice_range us start end → more_ends ≡ ends ++ length more_units ∷ [] → lines (drop start us) ≡ slice_range us start end ∷ lines (drop (end + 1) us) → line_fault (length ends + 1) (slice_range us start end) ≡ None → Kept us more_units more_ends (end + 1)
@@ -211,5 +211,5 @@ found units ends slice ls i start end is h f same es ee =
           ap (λ (k : ℕ). slice_range units k end) es0
           ∙ ap (λ (k : ℕ). slice_range units (start_of 0 ends i) k) ee0
           ∙ sym (cut-at 0 units ends i few)
-          ∙ ap (λ (l : List (List ℕ)). get_or l i []) is
+          ∙ ap (λ (l : List (List ℕ)). get_or l i []) is;
     }

@@ -33,8 +33,8 @@ line_at us start end some after within before at =
     let n = end - start in
     let l : length rest ≡ length us - start = length-drop start us in
     first_line rest n (omega arith) (omega arith)
-      (λ k h e. before (start + k) (omega arith) (omega arith) (sym (get_or-drop start us k 0) ∙ e))
-      (λ h. get_or-drop start us n 0 ∙ ap (λ (k : ℕ). get_or us k 0) (let e : start + n ≡ end = omega arith in e) ∙ at (omega arith))
+    (λ k h e. before (start + k) (omega arith) (omega arith) (sym (get_or-drop start us k 0) ∙ e))
+    (λ h. get_or-drop start us n 0 ∙ ap (λ (k : ℕ). get_or us k 0) (let e : start + n ≡ end = omega arith in e) ∙ at (omega arith))
     ∙ ap (λ (ls : List (List ℕ)). take n rest ∷ ls) (ap lines (drop-drop (suc n) start us ∙ ap (λ (k : ℕ). drop k us) (let e : start + suc n ≡ end + 1 = omega arith in e)))
 
 range_more : (us : List ℕ) (start at : ℕ) → start ≤ at → at < length us → slice_range us start (at + 1) ≡ slice_range us start at ++ get_or us at 0 ∷ []

@@ -66,10 +66,10 @@ from_word line start end some within before at =
     let l : length rest ≡ length line - start = length-drop start line in
     let back : start + n ≡ end = omega arith in
     let s = stretch rest n (omega arith)
-          (λ k h. ap is_space (get_or-drop start line k 0) ∙ before (start + k) (omega arith) (omega arith))
-          (λ h. ap is_space (get_or-drop start line n 0 ∙ ap (λ (k : ℕ). get_or line k 0) back) ∙ at (omega arith)) in
+    (λ k h. ap is_space (get_or-drop start line k 0) ∙ before (start + k) (omega arith) (omega arith))
+    (λ h. ap is_space (get_or-drop start line n 0 ∙ ap (λ (k : ℕ). get_or line k 0) back) ∙ at (omega arith)) in
     let there : pieces (drop end line) ≡ [] ∷ s.after =
-          ap (λ (k : ℕ). pieces (drop k line)) (sym back) ∙ ap pieces (sym (drop-drop n start line)) ∙ s.there in
+    ap (λ (k : ℕ). pieces (drop k line)) (sym back) ∙ ap pieces (sym (drop-drop n start line)) ∙ s.there in
     ap (λ (ps : List (List ℕ)). without_empty (places start ps)) s.here
     ∙ behind_word start end (take n rest) s.after some (omega (arith, length-take-le n rest (omega arith)))
     ∙ ap (λ (rs : List (ℕ × ℕ)). (start, end) ∷ rs) (sym (ap (λ (ps : List (List ℕ)). without_empty (places end ps)) there ∙ behind_empty end s.after))
@@ -81,11 +81,11 @@ Stand line at (p ∷ ps) = (take (length p) (drop at line) ≡ p) × Stand line 
 
 stands-more : (line : List ℕ) (at u : ℕ) (us : List ℕ) (ps : List (List ℕ)) → drop at line ≡ u ∷ us → drop (at + 1) line ≡ us → Stand line (at + 1) ps → Stand line at (onto_first u ps)
 stands-more line at u us [] here there s = (ap (take 1) here, tt)
-stands-more line at u us (p ∷ ps) here there s =
-    ( ap (take (suc (length p))) here ∙ ap (λ (l : List ℕ). u ∷ l) (ap (take (length p)) (sym there) ∙ s.0)
-    , let Behind : ℕ → Type 0 = λ k. Stand line k ps in
-      subst Behind (let e : at + 1 + length p + 1 ≡ at + suc (length p) + 1 = omega arith in e) s.1
-    )
+stands-more line at u us (p ∷ ps) here there s = (
+  ap (take (suc (length p))) here ∙ ap (λ (l : List ℕ). u ∷ l) (ap (take (length p)) (sym there) ∙ s.0),
+  let Behind : ℕ → Type 0 = λ k. Stand line k ps in
+      subst Behind (let e : at + 1 + length p + 1 ≡ at + suc (length p) + 1 = omega arith in e) s.1,
+)
 
 tail_of : (line : List ℕ) (at u : ℕ) (us : List ℕ) → drop at line ≡ u ∷ us → drop (at + 1) line ≡ us
 tail_of line at u us e = sym (drop-drop 1 at line) ∙ ap (drop 1) e
@@ -97,11 +97,11 @@ stands line (u ∷ us) at e =
     let s = stands line us (at + 1) rest in
     let P : List (List ℕ) → Type 0 = λ ps. Stand line at ps in
     (λ (b : Bool) (is : is_space u ≡ b).
-      elim b as (λ t. is_space u ≡ t → Stand line at (pieces (u ∷ us))) [
-        true ↦ λ t. subst P (sym (pieces-space u us t))
+    elim b as (λ t. is_space u ≡ t → Stand line at (pieces (u ∷ us))) [
+      | true ↦ λ t. subst P (sym (pieces-space u us t))
           (refl, let Behind : ℕ → Type 0 = λ k. Stand line k (pieces us) in subst Behind (let k : at + 1 ≡ at + 0 + 1 = omega arith in k) s)
-        | false ↦ λ t. subst P (sym (pieces-more u us t)) (stands-more line at u us (pieces us) e rest s)
-      ] is)
+      | false ↦ λ t. subst P (sym (pieces-more u us t)) (stands-more line at u us (pieces us) e rest s)
+    ] is)
     (is_space u) refl
 
 cuts : (line : List ℕ) (at : ℕ) (ps : List (List ℕ)) → Stand line at ps → map (λ (r : ℕ × ℕ). slice_range line r.0 r.1) (without_empty (places at ps)) ≡ filled ps

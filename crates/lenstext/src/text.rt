@@ -90,11 +90,7 @@ fn start_of_line(ends: &[u32], i: usize) -> usize
     requires { i < length ends.now }
     ensures { result ≡ start_of 0 ends.now i }
 {
-    if i == 0 {
-        0
-    } else {
-        ends[i - 1] as usize
-    }
+    if i == 0 { 0 } else { ends[i - 1] as usize }
 }
 
 impl Text {

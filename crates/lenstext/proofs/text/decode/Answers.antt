@@ -22,7 +22,7 @@ returns-in_err-end-clause-fault c =
     let count : vec_len c.loop-start.ends ≡ length c.loop-start.ends.items = omega (arith, c.loop-start.ends.ok.0) in
     rw (p.1, p.2)
     (λ ne. text-fault c.args.bytes.now c.in_ok-source.source _ c.in_ok-source.ensures.even c.in_ok-source.ensures.units
-      (Kept-fault _ _ _ _ _ c.loop-start.invariant (ap (λ (n : ℕ). first_fault (n + 1) (lines (drop c.loop-start.start c.in_ok-source.source))) (sym count) ∙ c.in_err-end.ensures.fault ne)))
+    (Kept-fault _ _ _ _ _ c.loop-start.invariant (ap (λ (n : ℕ). first_fault (n + 1) (lines (drop c.loop-start.start c.in_ok-source.source))) (sym count) ∙ c.in_err-end.ensures.fault ne)))
 
 pub loop-start-preserved : goal.loop-start-preserved
 loop-start-preserved c =
@@ -31,9 +31,9 @@ loop-start-preserved c =
     let count : vec_len c.loop-start.ends ≡ length c.loop-start.ends.items = omega (arith, c.loop-start.ends.ok.0) in
     let size : vec_len c.push_line.new.units ≡ length c.push_line.new.units.items = omega (arith, c.push_line.new.units.ok.0) in
     Kept-push us _ _ c.loop-start.start _ _ c.in_ok-end.end c.loop-start.invariant (omega arith) e.after e.within e.copied
-      (e.ended ∙ ap (λ (n : ℕ). c.loop-start.ends.items ++ n ∷ []) size)
-      e.line
-      (ap (λ (n : ℕ). line_fault (n + 1) (slice_range us c.loop-start.start c.in_ok-end.end)) (sym count) ∙ e.sound)
+    (e.ended ∙ ap (λ (n : ℕ). c.loop-start.ends.items ++ n ∷ []) size)
+    e.line
+    (ap (λ (n : ℕ). line_fault (n + 1) (slice_range us c.loop-start.start c.in_ok-end.end)) (sym count) ∙ e.sound)
 
 pub invariant_of-result : goal.invariant_of-result
 invariant_of-result c =
@@ -46,4 +46,4 @@ returns-clause-lines c =
     let k = c.loop-start.invariant in
     let done : length c.in_ok-source.source ≤ c.loop-start.start = omega arith in
     text-ok c.args.bytes.now c.in_ok-source.source _ c.in_ok-source.ensures.even c.in_ok-source.ensures.units
-      (Kept-sound _ _ _ _ k done) (Kept-whole _ _ _ _ k done)
+    (Kept-sound _ _ _ _ k done) (Kept-whole _ _ _ _ k done)

@@ -14,5 +14,5 @@ pub loop-at-preserved : goal.loop-at-preserved
 loop-at-preserved c = record {
   copied =
       unit_copied c.args.self.now c.args.units.now.items _ _ c.args.start c.loop-at.at _ _ c.loop-at.auto.at (omega arith) c.unit-unit.ensures c.loop-at.invariant.copied c.push.ensures.items (sym c.map_err.ensures.variant ∙ ap is_ok c.in_ok-map_err.was);
-  before = λ k l h. below_more (λ (n : ℕ). c.args.start ≤ n → get_or c.args.self.now n 0 ≢ 10) c.loop-at.at (λ n less from. c.loop-at.invariant.before n from less) (λ _ e. c.if-unit-eq-LINE_FEED.false (c.unit-unit.ensures ∙ e)) k h l
+  before = λ k l h. below_more (λ (n : ℕ). c.args.start ≤ n → get_or c.args.self.now n 0 ≢ 10) c.loop-at.at (λ n less from. c.loop-at.invariant.before n from less) (λ _ e. c.if-unit-eq-LINE_FEED.false (c.unit-unit.ensures ∙ e)) k h l;
 }

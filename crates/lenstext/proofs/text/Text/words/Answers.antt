@@ -7,7 +7,7 @@ pub loop-line-init : goal.loop-line-init
 loop-line-init c = record {
   near = omega arith;
   ranges = ap (λ (rs : List (ℕ × ℕ)). rs ++ ranges_from 0 c.line-line.result.now) c.clear.ensures ∙ from_start c.line-line.result.now;
-  within = λ k d h. absurd (omega (arith, ap length c.clear.ensures))
+  within = λ k d h. absurd (omega (arith, ap length c.clear.ensures));
 }
 
 pub returns-in_default-clause-ranges : goal.returns-in_default-clause-ranges

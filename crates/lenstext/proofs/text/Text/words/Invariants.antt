@@ -8,7 +8,7 @@ abbrev pub invariant-loop-line : goal.invariant-loop-line
 invariant-loop-line l = record {
   near : l.from ≤ length l.line;
   ranges : l.out.items ++ ranges_from l.from l.line ≡ word_ranges l.line;
-  within : All (λ (r : ℕ × ℕ). (r.0 < r.1) × (r.1 ≤ length l.line)) l.out.items
+  within : All (λ (r : ℕ × ℕ). (r.0 < r.1) × (r.1 ≤ length l.line)) l.out.items;
 }
 
 abbrev pub decreases-loop-line : goal.decreases-loop-line
