@@ -1,6 +1,6 @@
 -- Words of a line, and where they stand.
 use Rattle.std.proofs.Common.{◌≡◌, ℕ, zero, suc, ◌+◌, ◌-◌, ◌<◌, ◌≤◌, Bool, true, false, List, [], ◌∷◌, ◌++◌, length, get_or, take, drop, map, refl, ap, sym, ◌∙◌, subst, arith, length-drop, get_or-drop, drop-drop}
-use Rattle.std.specs.Prelude.{if◌then◌else◌, nat_lt, slice_range}
+use Rattle.std.specs.Prelude.{if◌then◌else◌, slice_range}
 use Rattle.std.proofs.lemmas.Bool.{le-ltb, le-leb}
 use Rattle.std.proofs.lemmas.List.{at_drop_more, at_drop_all, length-take-le, take-map, take_at, take_all, append-nil}
 use Rattle.lensmodel.specs.TextLines.{onto_first, is_space, pieces, words, without_empty as filled}
