@@ -1,6 +1,6 @@
 -- Words of a line, and where they stand.
 use Rattle.std.proofs.Common.{◌≡◌, ℕ, zero, suc, ◌+◌, ◌-◌, ◌<◌, ◌≤◌, Bool, true, false, List, [], ◌∷◌, ◌++◌, length, get_or, take, drop, map, refl, ap, sym, ◌∙◌, subst, arith, length-drop, get_or-drop, drop-drop}
-use Rattle.std.specs.Prelude.{if◌then◌else◌, nat_lt, slice_range}
+use Rattle.std.specs.Prelude.{if◌then◌else◌, slice_range}
 use Rattle.std.proofs.lemmas.Bool.{le-ltb, le-leb}
 use Rattle.std.proofs.lemmas.List.{at_drop_more, at_drop_all, length-take-le, take-map, take_at, take_all, append-nil}
 use Rattle.lensmodel.specs.TextLines.{onto_first, is_space, pieces, words, without_empty as filled}
@@ -58,21 +58,31 @@ stretch (u ∷ us) (suc n) within before at =
     let s = stretch us n (omega arith) (λ k h. before (suc k) (omega arith)) (λ h. at (omega arith)) in
     record { after = s.after; here = pieces-more u us (before 0 (omega arith)) ∙ ap (onto_first u) s.here; there = s.there }
 
-pub from_word : (line : List ℕ) (start end : ℕ) → start < end → end ≤ length line → ((k : ℕ) → start ≤ k → k < end → is_space (get_or line k 0) ≡ false) → (end < length line → is_space (get_or line end 0) ≡ true) → ranges_from start line ≡ (start, end) ∷ ranges_from end line
+-- a word and what follows it, where the pieces of the line from each are known
+word_then : (line p : List ℕ) (start end : ℕ) (ps : List (List ℕ)) → start < end → start + length p ≡ end → pieces (drop start line) ≡ p ∷ ps → pieces (drop end line) ≡ [] ∷ ps → ranges_from start line ≡ (start, end) ∷ ranges_from end line
 unfolding ranges_from
-from_word line start end some within before at =
-    let rest = drop start line in
-    let n = end - start in
-    let l : length rest ≡ length line - start = length-drop start line in
-    let back : start + n ≡ end = omega arith in
-    let s = stretch rest n (omega arith)
+word_then line p start end ps some size here there =
+    ap (λ (qs : List (List ℕ)). without_empty (places start qs)) here
+    ∙ behind_word start end p ps some size
+    ∙ ap (λ (rs : List (ℕ × ℕ)). (start, end) ∷ rs) (sym (ap (λ (qs : List (List ℕ)). without_empty (places end qs)) there ∙ behind_empty end ps))
+
+stretch_at : (line : List ℕ) (start end n : ℕ) → start + n ≡ end → end ≤ length line → ((k : ℕ) → start ≤ k → k < end → is_space (get_or line k 0) ≡ false) → (end < length line → is_space (get_or line end 0) ≡ true) → Stretch (drop start line) n
+stretch_at line start end n back within before at =
+    stretch (drop start line) n
+    (omega (arith, length-drop start line))
     (λ k h. ap is_space (get_or-drop start line k 0) ∙ before (start + k) (omega arith) (omega arith))
-    (λ h. ap is_space (get_or-drop start line n 0 ∙ ap (λ (k : ℕ). get_or line k 0) back) ∙ at (omega arith)) in
-    let there : pieces (drop end line) ≡ [] ∷ s.after =
-    ap (λ (k : ℕ). pieces (drop k line)) (sym back) ∙ ap pieces (sym (drop-drop n start line)) ∙ s.there in
-    ap (λ (ps : List (List ℕ)). without_empty (places start ps)) s.here
-    ∙ behind_word start end (take n rest) s.after some (omega (arith, length-take-le n rest (omega arith)))
-    ∙ ap (λ (rs : List (ℕ × ℕ)). (start, end) ∷ rs) (sym (ap (λ (ps : List (List ℕ)). without_empty (places end ps)) there ∙ behind_empty end s.after))
+    (λ h. ap is_space (get_or-drop start line n 0 ∙ ap (λ (k : ℕ). get_or line k 0) back) ∙ at (omega (arith, length-drop start line)))
+
+word_of : (line : List ℕ) (start end n : ℕ) → start + n ≡ end → start < end → end ≤ length line → Stretch (drop start line) n → ranges_from start line ≡ (start, end) ∷ ranges_from end line
+word_of line start end n back some within s =
+    word_then line (take n (drop start line)) start end s.after some
+    (omega (arith, length-take-le n (drop start line) (omega (arith, length-drop start line))))
+    s.here
+    (ap (λ (k : ℕ). pieces (drop k line)) (sym back) ∙ ap pieces (sym (drop-drop n start line)) ∙ s.there)
+
+pub from_word : (line : List ℕ) (start end : ℕ) → start < end → end ≤ length line → ((k : ℕ) → start ≤ k → k < end → is_space (get_or line k 0) ≡ false) → (end < length line → is_space (get_or line end 0) ≡ true) → ranges_from start line ≡ (start, end) ∷ ranges_from end line
+from_word line start end some within before at =
+    word_of line start end (end - start) (omega arith) some within (stretch_at line start end (end - start) (omega arith) within before at)
 
 -- the pieces of a line from a place on stand one behind another
 abbrev Stand : List ℕ → ℕ → List (List ℕ) → Type 0

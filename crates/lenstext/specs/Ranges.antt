@@ -7,6 +7,7 @@ abbrev pub places : ℕ → List (List ℕ) → List (ℕ × ℕ)
 places at [] = []
 places at (p ∷ ps) = (at, at + length p) ∷ places (at + length p + 1) ps
 
+-- the ranges that hold something
 abbrev pub without_empty : List (ℕ × ℕ) → List (ℕ × ℕ)
 without_empty [] = []
 without_empty (r ∷ rs) = if nat_lt r.0 r.1 then r ∷ without_empty rs else without_empty rs

@@ -1,6 +1,7 @@
 //! The 16-bit units of a file.
 
-ghost use Rattle.std.specs.Prelude.{◌≡◌, ◌≢◌, ◌+◌, ◌<◌, ◌≤◌, true, false, ◌∷◌, ◌++◌, length, drop, slice_index, slice_range, IfOk, IfErr, OnOk, IsTrue, if◌then◌else◌};
+ghost use Rattle.std.specs.Prelude.{◌≡◌, ◌==◌, ◌≢◌, ◌+◌, ◌^◌, ◌<◌, ◌≤◌, true, false, ◌∷◌, ◌++◌, length, drop, slice_index, slice_range, IfOk, IfErr, OnOk, IsTrue, if◌then◌else◌};
+ghost use Rattle.std.specs.List.{count_by};
 ghost use Rattle.lensmodel.specs.TextLines.{units, lines, is_odd, is_wide, pairs};
 
 use lensmodel::fault::TextFault;
@@ -30,6 +31,7 @@ const LINE_FEED: u16 = 10;
 fn split_mark(bytes: &[u8]) -> (&[u8], bool)
     ensures wide { result.1 ≡ is_wide bytes.now }
     ensures units { (if result.1 then pairs result.0.now else result.0.now) ≡ units bytes.now }
+    ensures inside { length result.0.now ≤ length bytes.now }
     ensures length { IsTrue result.1 → length bytes.now ≡ length result.0.now + 2 }
 {
     match bytes {
@@ -45,6 +47,7 @@ impl<'a> Source<'a> {
     pub fn open(bytes: &'a [u8]) -> Result<Source<'a>, TextFault>
         ensures units { IfOk result (λ s. s ≡ units bytes.now) }
         ensures even { OnOk result (is_odd bytes.now ≡ false) }
+        ensures memory { IfErr result (λ f. f ≡ TextFault.Memory → 2 ^ 32 ≤ length bytes.now) }
         ensures odd { IfErr result (λ f. f ≢ TextFault.Memory → (f ≡ TextFault.OddByte) × (is_odd bytes.now ≡ true)) }
     {
         let (body, wide) = split_mark(bytes);
@@ -83,7 +86,7 @@ impl<'a> Source<'a> {
 
     /// How many of the units are line feeds.
     pub fn line_feeds(&self) -> usize
-        ensures { result ≤ length self.now }
+        ensures { result ≡ count_by (λ u. u == 10) self.now }
     {
         let mut feeds = 0;
         for at in 0..self.len() {

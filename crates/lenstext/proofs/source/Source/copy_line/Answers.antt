@@ -1,4 +1,4 @@
-use Rattle.std.proofs.Common.{◌≡◌, ◌≢◌, get_or, ◌<◌, ◌≤◌, ◌+◌, ◌-◌, ℕ, List, [], ◌∷◌, ◌++◌, ap, sym, ◌∙◌, is_ok, below_more, arith}
+use Rattle.std.proofs.Common.{◌≢◌, get_or, ◌≤◌, ℕ, ap, sym, ◌∙◌, is_ok, below_more, arith}
 use Rattle.lenstext.proofs.Lines.{line_at, unit_copied}
 use Rattle.lenstext.proofs.source.Source.copy_line.Goals as goal
 

@@ -1,4 +1,4 @@
-use Rattle.std.proofs.Common.{◌≡◌, Bool, List, ℕ, ap, sym, ◌∙◌, ◌/◌, length, arith}
+use Rattle.std.proofs.Common.{◌≡◌, Bool, ap, sym, ◌∙◌, ◌/◌, length, arith}
 use Rattle.std.specs.Prelude.{if◌then◌else◌}
 use Rattle.lensmodel.specs.TextLines.{pairs}
 use Rattle.lenstext.proofs.Units.{length-pairs}

@@ -1,7 +1,5 @@
-use Rattle.std.proofs.Common.{◌≡◌, ◌<◌, ◌≤◌, ◌+◌, ◌*◌, ◌/◌, Bool, true, false, List, ℕ, ap, sym, ◌∙◌, length, arith}
-use Rattle.std.specs.Prelude.{if◌then◌else◌}
-use Rattle.lensmodel.specs.TextLines.{pairs}
-use Rattle.lenstext.proofs.Units.{length-pairs, units_fit}
+use Rattle.std.proofs.Common.{arith}
+use Rattle.lenstext.proofs.Units.{units_fit}
 use Rattle.lenstext.proofs.source.Source.open.Goals as goal
 
 pub invariant_of-result : goal.invariant_of-result

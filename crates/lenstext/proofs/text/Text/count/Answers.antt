@@ -1,4 +1,4 @@
-use Rattle.std.proofs.Common.{ap, ◌∙◌, sym, length, arith}
+use Rattle.std.proofs.Common.{ap, length, arith}
 use Rattle.lenstext.proofs.Cutting.{length-cut}
 use Rattle.lenstext.proofs.text.Text.count.Goals as goal
 

@@ -1,5 +1,5 @@
-use Rattle.std.proofs.Common.{◌≡◌, ◌≤◌, ◌++◌, ℕ, List, [], ◌∷◌, ap, sym, ◌∙◌, length, arith, rules, tests}
-use Rattle.lenstext.specs.Ranges.{ranges_from, word_ranges}
+use Rattle.std.proofs.Common.{◌++◌, ℕ, List, ap, ◌∙◌, length, arith, rules, tests}
+use Rattle.lenstext.specs.Ranges.{ranges_from}
 use Rattle.lenstext.proofs.Words.{from_start, all_ranges, full_ranges, first_words}
 use Rattle.lenstext.proofs.text.Text.words.Goals as goal
 
