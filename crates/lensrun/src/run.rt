@@ -1,6 +1,8 @@
 //! The top call: from the words and the files to the status and the text.
 
-ghost use Rattle.std.specs.Prelude.{◌≡◌};
+ghost use Rattle.std.specs.Prelude.{◌≡◌, ◌≢◌, ◌+◌, ◌⊎◌, Some, None, IsNone};
+ghost use Rattle.lensio.specs.Count.{Rose, RoseBy};
+ghost use Rattle.lensrun.specs.Causes.{unread_status, IsJudged};
 
 use crate::catalogue::{self, Unbuilt};
 use crate::words::{Command, command_of};
@@ -12,7 +14,7 @@ use fixdec::span::Span;
 use fixdec::step::Step;
 use lensio::shelf::Shelf;
 use lensio::sink::Sink;
-use lensio::transfer::{SlurpFault, put, slurp};
+use lensio::transfer::{FILE_LIMIT, SlurpFault, put, slurp};
 use lensmodel::fault::CrossFault;
 use lensmodel::glass::{Glass, Medium};
 use lensmodel::name::Name;
@@ -51,7 +53,9 @@ impl Answer {
 }
 
 /// Why a catalogue gives no bytes.
-fn unread(fault: SlurpFault) -> Answer {
+fn unread(fault: SlurpFault) -> Answer
+    ensures { result.status ≡ unread_status fault }
+{
     let mut text = Line::new();
     let status = match fault {
         SlurpFault::Absent => {
@@ -72,7 +76,9 @@ fn unread(fault: SlurpFault) -> Answer {
 }
 
 /// Files that don't fit together.
-fn crossed(fault: CrossFault) -> Answer {
+fn crossed(fault: CrossFault) -> Answer
+    ensures { result.status ≡ Status.Refused }
+{
     let mut text = Line::new();
     print_cross_fault(fault, &mut text);
     Answer {
@@ -82,7 +88,9 @@ fn crossed(fault: CrossFault) -> Answer {
 }
 
 /// A catalogue of a form that isn't read yet.
-fn unbuilt() -> Answer {
+fn unbuilt() -> Answer
+    ensures { result.status ≡ Status.Refused }
+{
     let mut text = Line::new();
     text.push_str("refused agf unbuilt\n");
     Answer {
@@ -114,7 +122,9 @@ fn good_index(glass: Glass, wave: &Dec) -> Option<Span> {
 }
 
 /// Answers `index` over the bytes of a catalogue.
-fn answer_index(bytes: &[u8], glass: &Name, wave: &Dec) -> Answer {
+fn answer_index(bytes: &[u8], glass: &Name, wave: &Dec) -> Answer
+    ensures { IsJudged result.status }
+{
     let found = match catalogue::find(bytes, glass) {
         Ok(Some(found)) => found,
         Ok(None) => return crossed(CrossFault::NoGlass { surface: 0 }),
@@ -134,7 +144,12 @@ fn answer_index(bytes: &[u8], glass: &Name, wave: &Dec) -> Answer {
 }
 
 /// The answer to a call.
-fn answer_of<F: Shelf>(alloc: Global, words: &[Vec<u8>], shelf: &mut F) -> Answer {
+fn answer_of<F: Shelf>(alloc: Global, words: &[Vec<u8>], shelf: &mut F) -> Answer
+    ensures absent { result.status ≡ Status.Absent → Rose (F.absences shelf.old) (F.absences shelf.new) }
+    ensures read_fault { result.status ≡ Status.ReadFault → Rose (F.faults shelf.old) (F.faults shelf.new) }
+    ensures too_long { result.status ≡ Status.TooLong → RoseBy (FILE_LIMIT + 1) (F.given shelf.old) (F.given shelf.new) }
+    ensures written { result.status ≢ Status.WriteFault }
+{
     match command_of(words) {
         None => {
             let mut text = Line::new();
@@ -168,6 +183,12 @@ pub fn run<F: Shelf, K: Sink, L: Ledger>(
     steps: &mut Steps<L>,
 ) -> Status
     ensures prepared { steps.new ≡ steps.old }
+
+    // Each of these comes only by its cause.
+    ensures absent { result ≡ Status.Absent → Rose (F.absences shelf.old) (F.absences shelf.new) }
+    ensures read_fault { result ≡ Status.ReadFault → Rose (F.faults shelf.old) (F.faults shelf.new) }
+    ensures too_long { result ≡ Status.TooLong → RoseBy (FILE_LIMIT + 1) (F.given shelf.old) (F.given shelf.new) }
+    ensures write_fault { result ≡ Status.WriteFault → Rose (K.faults out.old) (K.faults out.new) }
 {
     let _steps = steps;
     let answer = answer_of(alloc, words, shelf);
