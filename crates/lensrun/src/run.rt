@@ -1,6 +1,6 @@
 //! The top call: from the words and the files to the status and the text.
 
-ghost use Rattle.std.specs.Prelude.{◌≡◌, ◌≢◌, ◌+◌, ◌⊎◌, Some, None, IsNone};
+ghost use Rattle.std.specs.Prelude.{◌≡◌, ◌≢◌, ◌+◌, ◌⊎◌, ◌<◌};
 ghost use Rattle.lensio.specs.Count.{Rose, RoseBy};
 ghost use Rattle.lensrun.specs.Causes.{unread_status, IsJudged};
 
@@ -195,5 +195,87 @@ pub fn run<F: Shelf, K: Sink, L: Ledger>(
     match put(out, answer.text.as_str().as_bytes()) {
         Ok(()) => answer.status,
         Err(_) => Status::WriteFault,
+    }
+}
+
+#[cfg(test)]
+mod tests {
+    use super::*;
+    use lensio::memory::{CalmShelf, CalmSink};
+    use std::marker::Brand;
+    use std::process::Abort;
+    use std::sync::ledger::Blank;
+    use std::test::Fail;
+
+    const FLAT: &str = "NM FLAT 1 0 1.5 0\nCD 2.25 0 0 0 0 0\n";
+
+    const POLE: &str = "NM POLE 2 0 1 0\nCD 1 0.25\n";
+
+    const ORPHAN: &str = "CD 1 0.25\nNM POLE 2 0 1 0\n";
+
+    fn bytes(alloc: Global, text: &str) -> Result<Vec<u8>, Fail> {
+        let mut all = Vec::new(alloc);
+        all.extend_from_slice(text.as_bytes())?;
+        Ok(all)
+    }
+
+    /// The status and the text of `index F GLASS WAVE` over a shelf that holds one catalogue, F.
+    fn index_of<L: Ledger>(
+        alloc: Global,
+        catalogue: &str,
+        words: [&str; 4],
+        steps: &mut Steps<L>,
+    ) -> Result<(Status, Vec<u8>), Fail> {
+        let mut files = Vec::new(alloc);
+        files.push((bytes(alloc, "F")?, bytes(alloc, catalogue)?))?;
+        let mut shelf = CalmShelf::new(files, 7);
+        let mut sink = CalmSink::new(alloc, 2048, 3)?;
+        let mut all = Vec::new(alloc);
+        for word in words {
+            all.push(bytes(alloc, word)?)?;
+        }
+        let status = run(alloc, all.as_slice(), &mut shelf, &mut sink, steps);
+        let mut text = Vec::new(alloc);
+        text.extend_from_slice(sink.bytes().ok_or("the sink has no room")?)?;
+        Ok((status, text))
+    }
+
+    fn rows<R: Abort, L: Ledger>(rt: &R, alloc: Global, blank: Blank) -> Result<(), Fail>
+        requires name { blank.name ≡ L.name }
+        requires parts { blank.parts ≡ L.parts }
+        requires some { 0 < L.parts }
+    {
+        let mut steps = Steps::<L>::start(blank);
+        let flat = index_of(alloc, FLAT, ["index", "F", "FLAT", "0.5"], &mut steps)?;
+        assert_eq!(rt; flat.0, Status::Done);
+        assert_eq!(rt;
+            flat.1.as_slice(),
+            b"index FLAT 5e-1 [1.499999999999,1.500000000001]\n".as_slice()
+        );
+        let pole = index_of(alloc, POLE, ["index", "F", "POLE", "0.5"], &mut steps)?;
+        assert_eq!(rt; pole.0, Status::Refused);
+        assert_eq!(rt;
+            pole.1.as_slice(),
+            b"refused cross bad-index surface 0\n".as_slice()
+        );
+        let unknown = index_of(alloc, POLE, ["index", "F", "FLAT", "0.5"], &mut steps)?;
+        assert_eq!(rt;
+            unknown.1.as_slice(),
+            b"refused cross no-glass surface 0\n".as_slice()
+        );
+        let orphan = index_of(alloc, ORPHAN, ["index", "F", "POLE", "0.5"], &mut steps)?;
+        assert_eq!(rt; orphan.1.as_slice(), b"refused agf unbuilt\n".as_slice());
+        let absent = index_of(alloc, FLAT, ["index", "G", "FLAT", "0.5"], &mut steps)?;
+        assert_eq!(rt; absent.0, Status::Absent);
+        assert_eq!(rt; absent.1.as_slice(), b"absent agf\n".as_slice());
+        let usage = index_of(alloc, FLAT, ["index", "F", "FLAT", "-0.5"], &mut steps)?;
+        assert_eq!(rt; usage.0, Status::Usage);
+        assert_eq!(rt; usage.1.as_slice(), b"usage\n".as_slice());
+        Ok(())
+    }
+
+    #[test]
+    fn rows_of_the_index(rt: HostRuntime) -> Result<(), Fail> {
+        rows::<HostRuntime, Brand>(&rt, rt.alloc(), Blank::new(1))
     }
 }
