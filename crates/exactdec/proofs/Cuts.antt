@@ -1,7 +1,7 @@
 -- Where the parts of a word end: each is as long as it can be.
-use Rattle.std.proofs.Common.{◌≡◌, ℕ, ◌+◌, ◌<◌, ◌≤◌, Bool, true, false, List, [], ◌∷◌, ◌++◌, length, refl, sym, ap, ◌∙◌, subst, arith, ◌⊎◌, inl, inr}
-use Rattle.std.proofs.lemmas.Bool.{leb-true, le-leb, ltb-true, ltb-false, lt-ltb, le-ltb, cases_Bool, cases_lt}
-use Rattle.std.specs.Prelude.{◌&&◌, ◌||◌, ◌==◌, nat_lt, nat_le, if◌then◌else◌}
+use Rattle.std.proofs.Common.{◌≡◌, ℕ, ◌<◌, Bool, true, false, List, [], ◌∷◌, ◌++◌, length, refl, sym, ap, ◌∙◌, subst, arith, ◌⊎◌, inl, inr}
+use Rattle.std.proofs.lemmas.Bool.{leb-true, le-leb, lt-ltb, le-ltb, cases_Bool, cases_lt}
+use Rattle.std.specs.Prelude.{◌&&◌, nat_le}
 use Rattle.fixdec.specs.Word.{Parts, IsDigit, AreDigits, digits, spelling}
 use Rattle.fixdec.specs.Reading.{is_digit, is_sign, is_point, is_mark, unit_front, unit_after, digits_front, digits_after, Split, mantissa_front, power_front, has_power, split}
 use Rattle.exactdec.proofs.Splits.{unit_join, digits_join, spelling-append, split-power}

@@ -1,11 +1,10 @@
 -- Digits, the zeros in front of them and behind them, and their number.
-use Rattle.std.proofs.Common.{◌≡◌, ◌≢◌, ℕ, zero, suc, ◌+◌, ◌*◌, ◌-◌, ◌^◌, ◌<◌, ◌≤◌, Bool, true, false, List, [], ◌∷◌, ◌++◌, length, refl, sym, ap, ◌∙◌, subst, arith, ◌⊎◌, inl, inr, add-zero, length-append, append_assoc, reverse, get_or}
-use Rattle.std.proofs.Math.Nat.{mul-le-mul_right, one-le-pow, pow-le-pow_right}
+use Rattle.std.proofs.Common.{◌≡◌, ◌≢◌, ℕ, zero, suc, ◌+◌, ◌*◌, ◌-◌, ◌^◌, ◌<◌, ◌≤◌, true, false, List, [], ◌∷◌, ◌++◌, length, refl, sym, ap, ◌∙◌, arith, inl, inr, reverse, get_or}
+use Rattle.std.proofs.Math.Nat.{pow-succ'}
 use Rattle.std.proofs.lemmas.Bool.Decides.{eqb_tells}
 use Rattle.std.proofs.lemmas.List.{reverse-append, reverse-reverse, length-reverse}
 use Rattle.std.proofs.lemmas.Nat.{pow-add}
-use Rattle.std.specs.Prelude.{◌==◌, if◌then◌else◌}
-use Rattle.std.specs.List.{AllByRecursion}
+use Rattle.std.specs.Prelude.{◌==◌}
 use Rattle.fixdec.specs.Word.{IsDigit, AreDigits, without_leading, without_trailing, number_after, number}
 
 -- a digit in front that is 0 is dropped, and any other stays
@@ -60,13 +59,10 @@ number-push ds c = number_after-push 0 ds c
 back : (c : ℕ) (cs : List ℕ) → reverse (c ∷ cs) ≡ reverse cs ++ c ∷ []
 back c cs = reverse-append (c ∷ []) cs
 
-power-suc : (k : ℕ) → 10 ^ suc k ≡ 10 * 10 ^ k
-power-suc k = ap (λ (j : ℕ). 10 ^ j) (omega arith) ∙ pow-add 10 1 k
-
 one_more_zero : (n m len l : ℕ) → l ≤ len → n ≡ m * 10 ^ (len - l) → 10 * n ≡ m * 10 ^ (suc len - l)
 one_more_zero n m len l h e =
     let step : suc len - l ≡ suc (len - l) = omega arith in
-    let power = ap (λ (j : ℕ). m * 10 ^ j) step ∙ ap (λ (w : ℕ). m * w) (power-suc (len - l)) in
+    let power = ap (λ (j : ℕ). m * 10 ^ j) step ∙ ap (λ (w : ℕ). m * w) (pow-succ' 10 (len - l)) in
     omega arith
 
 -- the number of digits that are written backwards, and of those without the zeros
@@ -107,21 +103,6 @@ number-leading (c ∷ cs) = elim (eqb_tells c 48) [
 pub length-trailing : (ds : List ℕ) → length (without_trailing ds) ≤ length ds
 unfolding without_trailing
 length-trailing ds = omega (arith, length-reverse (without_leading (reverse ds)), length-reverse ds, length-leading (reverse ds))
-
--- a digit at most makes a number one place longer
-push_below : (n c k : ℕ) → IsDigit c → n < 10 ^ k → 10 * n + (c - 48) < 10 ^ suc k
-push_below n c k d h = let high = d.high in omega (arith, power-suc k)
-
-after_below : (n k : ℕ) (ds : List ℕ) → AreDigits ds → n < 10 ^ k → number_after n ds < 10 ^ (k + length ds)
-after_below n k [] d h = rw add-zero h
-after_below n k (c ∷ cs) d h =
-    let step = after_below (10 * n + (c - 48)) (suc k) cs d.1 (push_below n c k d.0 h) in
-    let e : suc k + length cs ≡ k + suc (length cs) = omega arith in
-    rw e at step
-
--- as many digits, so many places
-pub number-below : (ds : List ℕ) → AreDigits ds → number ds < 10 ^ length ds
-number-below ds d = let step = after_below 0 0 ds d (omega arith) in let e : 0 + length ds ≡ length ds = omega arith in rw e at step
 
 pub other_digit : (c : ℕ) → c ≢ 48 → (c == 48) ≡ false
 other_digit c h = elim (eqb_tells c 48) [ inl t ↦ absurd (h t.1) | inr t ↦ t.0 ]

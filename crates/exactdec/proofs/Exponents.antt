@@ -1,10 +1,10 @@
 -- The exponent of a word, from its digits up to a limit.
-use Rattle.std.proofs.Common.{◌≡◌, ℕ, ℤ, pos, negsuc, ◌+◌, ◌^◌, ◌<◌, ◌≤◌, Bool, true, false, List, [], ◌∷◌, length, refl, sym, ap, ◌∙◌, arith, ◌⊎◌, inl, inr, min, subst, to_z, of_z}
+use Rattle.std.proofs.Common.{◌≡◌, ℕ, ℤ, pos, ◌^◌, ◌<◌, ◌≤◌, true, false, List, [], ◌∷◌, refl, ap, ◌∙◌, arith, ◌⊎◌, inl, inr, min, subst, to_z, of_z}
 use Rattle.std.proofs.lemmas.Bool.{cases_lt}
 use Rattle.std.proofs.lemmas.Bool.Decides.{eqb_tells}
 use Rattle.std.proofs.lemmas.Int.{ints, to_z-of_z, to_z_pos, fits_signed_from_abs}
-use Rattle.std.specs.Int.{w32, w128}
-use Rattle.std.specs.Prelude.{Option, Some, None, MatchOption, ◌≤ℤ◌, ◌<ℤ◌, ◌+ℤ◌, ◌-ℤ◌, ◌==◌, neg_ℤ, unsigned_abs, FitsSigned, if◌then◌else◌}
+use Rattle.std.specs.Int.{w128}
+use Rattle.std.specs.Prelude.{Option, Some, None, MatchOption, ◌<ℤ◌, ◌+ℤ◌, ◌-ℤ◌, neg_ℤ, unsigned_abs}
 use Rattle.fixdec.specs.Word.{signed}
 use Rattle.fixdec.specs.Reading.{is_readable}
 
@@ -12,9 +12,6 @@ use Rattle.fixdec.specs.Reading.{is_readable}
 pub sign_cases : (sign : List ℕ) → ((n : ℕ) → signed sign n ≡ pos n) ⊎ ((n : ℕ) → signed sign n ≡ neg_ℤ (pos n))
 sign_cases [] = inl (λ n. refl)
 sign_cases (c ∷ cs) = elim (eqb_tells c 45) [ inl t ↦ inr (λ n. rw t.0) | inr t ↦ inl (λ n. rw t.0) ]
-
-is_readable-yes : (e : ℤ) → neg_ℤ (pos 60) ≤ℤ e → e ≤ℤ pos 30 → is_readable e ≡ true
-is_readable-yes e l h = grind (arith, ints)
 
 is_readable-low : (e : ℤ) → e <ℤ neg_ℤ (pos 60) → is_readable e ≡ false
 is_readable-low e h = grind (arith, ints)

@@ -1,11 +1,11 @@
 -- The words of the grammar are those that are taken apart with nothing missing and nothing left over.
-use Rattle.std.proofs.Common.{◌≡◌, ℕ, ◌+◌, ◌<◌, ◌≤◌, Bool, true, false, List, [], ◌∷◌, ◌++◌, length, refl, sym, ap, ◌∙◌, subst, arith, ◌⊎◌, inl, inr, append-nil, length-append}
-use Rattle.std.proofs.lemmas.Bool.{leb-true, lt-leb, lt-ltb, le-ltb, ltb-true, eqb-true, eq-eqb, cases_Bool, cases_lt}
+use Rattle.std.proofs.Common.{◌≡◌, ℕ, ◌<◌, true, false, List, [], ◌∷◌, ◌++◌, length, refl, sym, ap, ◌∙◌, subst, arith, inl, inr, append-nil}
+use Rattle.std.proofs.lemmas.Bool.{lt-ltb, ltb-true, eqb-true, eq-eqb}
 use Rattle.std.proofs.lemmas.Bool.Decides.{eqb_tells}
-use Rattle.std.specs.Prelude.{◌&&◌, ◌||◌, ◌==◌, nat_lt, nat_le, codes, if◌then◌else◌}
+use Rattle.std.specs.Prelude.{◌&&◌, ◌||◌, ◌==◌, nat_lt}
 use Rattle.fixdec.specs.Word.{Parts, IsDigit, AreDigits, IsSign, IsPoint, IsMark, IsMantissa, IsPower, IsNoPower, IsGrammatical, Spells, digits, spelling}
-use Rattle.fixdec.specs.Reading.{is_digit, is_sign, is_point, is_mark, unit_front, digits_front, Split, split, is_whole}
-use Rattle.exactdec.proofs.Cuts.{IsUnit, IsMantissaCut, IsMantissaAlone, IsBareCut, IsPlainCut, IsPowerCut, IsCut, and_true, digits_cut, cut_split, split_cuts, test_from_digit}
+use Rattle.fixdec.specs.Reading.{is_sign, is_point, is_mark, unit_front, digits_front, Split, split, is_whole}
+use Rattle.exactdec.proofs.Cuts.{IsUnit, IsMantissaCut, IsMantissaAlone, IsPowerCut, IsCut, and_true, digits_cut, cut_split, split_cuts}
 use Rattle.exactdec.proofs.Splits.{split_join, not_empty}
 use Rattle.exactdec.proofs.Mantissas.{nil_from_length}
 

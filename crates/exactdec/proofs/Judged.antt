@@ -1,12 +1,12 @@
 -- The decimal of a word's parts, or its fault.
-use Rattle.std.proofs.Common.{◌≡◌, ℕ, ℤ, pos, ◌+◌, ◌-◌, ◌^◌, ◌<◌, ◌≤◌, Bool, true, false, List, length, refl, sym, ap, ◌∙◌, arith, ◌⊎◌, inl, inr, Ok, Err}
+use Rattle.std.proofs.Common.{◌≡◌, ℕ, ℤ, pos, ◌-◌, ◌^◌, ◌<◌, ◌≤◌, true, false, List, length, sym, ap, ◌∙◌, arith, inl, inr, Ok, Err}
 use Rattle.std.proofs.Math.Nat.{pow-le-pow_right}
-use Rattle.std.proofs.lemmas.Bool.{lt-ltb, ltb-false, le-ltb}
+use Rattle.std.proofs.lemmas.Bool.{lt-ltb, le-ltb}
 use Rattle.std.proofs.lemmas.Bool.Decides.{eqb_tells}
 use Rattle.std.proofs.lemmas.Int.{ints, fits_signed_from_abs}
 use Rattle.std.specs.Int.{w32}
-use Rattle.std.specs.Prelude.{Result, ◌≤ℤ◌, ◌+ℤ◌, ◌-ℤ◌, ◌==◌, nat_lt, neg_ℤ, unsigned_abs, FitsSigned, if◌then◌else◌}
-use Rattle.fixdec.specs.Decimal.{Decimal, IsKept}
+use Rattle.std.specs.Prelude.{unsigned_abs, FitsSigned}
+use Rattle.fixdec.specs.Decimal.{IsKept}
 use Rattle.fixdec.specs.Word.{Parts, digits, from_first, significant, kept, signed, number, AreDigits, IsReadable}
 use Rattle.fixdec.specs.Reading.{is_readable}
 use Rattle.exactdec.specs.Reading.{judged}

@@ -1,12 +1,12 @@
 -- A mantissa with one more digit.
-use Rattle.std.proofs.Common.{◌≡◌, ◌≢◌, ℕ, zero, suc, ◌+◌, ◌*◌, ◌-◌, ◌^◌, ◌<◌, ◌≤◌, Bool, true, false, List, [], ◌∷◌, ◌++◌, length, refl, sym, ap, ◌∙◌, arith, ◌⊎◌, inl, inr, length-append}
+use Rattle.std.proofs.Common.{◌≡◌, ℕ, suc, ◌+◌, ◌*◌, ◌-◌, ◌^◌, ◌<◌, ◌≤◌, false, List, [], ◌∷◌, ◌++◌, length, refl, sym, ap, ◌∙◌, arith, inl, inr, length-append}
 use Rattle.std.proofs.Math.Nat.{pow-succ', one-le-pow, mul-le-mul_right}
 use Rattle.std.proofs.lemmas.Bool.{cases_lt}
 use Rattle.std.proofs.lemmas.Nat.{pow-add}
 use Rattle.std.specs.Prelude.{◌==◌}
 use Rattle.fixdec.specs.Word.{IsDigit, without_leading, without_trailing, number}
 use Rattle.exactdec.specs.Mantissas.{IsKeptOf}
-use Rattle.exactdec.proofs.Digits.{leading-none, leading-some, leading-other, trailing-zero, trailing-other, number-push, number-trailing, length-trailing}
+use Rattle.exactdec.proofs.Digits.{leading-none, leading-some, leading-other, trailing-zero, trailing-other, number-push, number-trailing}
 
 pub nil_from_length : (ds : List ℕ) → length ds ≡ 0 → ds ≡ []
 nil_from_length [] h = refl

@@ -1,19 +1,17 @@
 -- The power of ten that a zone is brought to.
-use Rattle.std.proofs.Common.{◌≡◌, ℕ, zero, suc, ℤ, pos, negsuc, ◌+◌, ◌*◌, ◌-◌, ◌^◌, ◌<◌, ◌≤◌, Bool, true, false, cond, refl, sym, ap, ◌∙◌, subst, arith, ◌⊎◌, inl, inr, List, [], ◌∷◌, add-zero}
+use Rattle.std.proofs.Common.{◌≡◌, ℕ, zero, suc, ℤ, pos, negsuc, ◌+◌, ◌*◌, ◌-◌, ◌^◌, ◌<◌, ◌≤◌, refl, ap, ◌∙◌, arith, inl, inr, [], ◌∷◌, add-zero}
 use Rattle.std.proofs.Math.Nat.{mul-le-mul}
-use Rattle.std.proofs.lemmas.Bool.{leb-true, leb-false, le-leb, lt-leb, cases_lt}
-use Rattle.std.proofs.lemmas.Int.{ints, unsigned_abs-mul}
-use Rattle.std.specs.Prelude.{◌≤ℤ◌, ◌<ℤ◌, ◌+ℤ◌, ◌-ℤ◌, ◌*ℤ◌, nat_le, unsigned_abs, if◌then◌else◌}
+use Rattle.std.proofs.lemmas.Bool.{le-leb, lt-leb, cases_lt}
+use Rattle.std.proofs.lemmas.Int.{ints}
+use Rattle.std.specs.Prelude.{◌≤ℤ◌, ◌+ℤ◌, ◌-ℤ◌, ◌*ℤ◌, unsigned_abs}
 use lib.IntN.{neg_ℤ}
 use Rattle.fixdec.specs.Decimal.{ten_power}
 use Rattle.fixdec.specs.Ends.{Ends}
-use Rattle.fixdec.specs.Frac.{Frac, whole, ◌≈◌, ◌≤Q◌, ◌*Q◌}
+use Rattle.fixdec.specs.Frac.{whole, ◌≈◌, ◌≤Q◌, ◌*Q◌}
 use Rattle.fixdec.specs.FracLaws.{is, is_mul, is_whole, same_if, ≈_sym}
-use Rattle.fixdec.specs.IntLaws.{ringℤ}
 use Rattle.fixdec.specs.Linear.{linear_le, order, no_fact, reads}
 use Rattle.fixdec.specs.Order.{cancel_Q, le_of_same, le_trans, le_whole, le_whole_out, nn_in, nn_whole}
 use Rattle.fixdec.specs.PowerLaws.{ten_power_is}
-use Rattle.fixdec.specs.Ring.{var, con, ◌⊗◌}
 use Rattle.fixdec.specs.Zone.{least_power, nano, norm, IsNorm, IsZone}
 
 pub least_power-found : (z n k : ℕ) → z * z ≤ 10 ^ k → least_power z n k ≡ k

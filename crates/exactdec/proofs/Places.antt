@@ -1,11 +1,11 @@
 -- The place of a word outside the grammar.
-use Rattle.std.proofs.Common.{◌≡◌, ℕ, ◌+◌, ◌-◌, ◌<◌, ◌≤◌, Bool, true, false, suc, List, [], ◌∷◌, ◌++◌, length, take, refl, sym, ap, ◌∙◌, subst, arith, ◌⊎◌, inl, inr, append-nil, append_assoc, length-append}
+use Rattle.std.proofs.Common.{◌≡◌, ℕ, ◌+◌, ◌-◌, ◌<◌, ◌≤◌, Bool, suc, List, [], ◌∷◌, ◌++◌, length, take, refl, sym, ap, ◌∙◌, subst, arith, inl, inr, append-nil, append_assoc, length-append}
 use Rattle.std.proofs.lemmas.Bool.{cases_Bool, cases_lt}
 use Rattle.std.proofs.Math.Seq.{take-append-add, take-append_seam}
-use Rattle.fixdec.specs.Word.{Parts, IsDigit, AreDigits, IsMantissa, IsPower, IsNoPower, IsGrammatical, Spells, IsWord, BeginsWord, IsPlace, digits, spelling}
-use Rattle.fixdec.specs.Reading.{is_digit, is_sign, is_point, is_mark, unit_front, digits_front, Split, split, is_whole}
-use Rattle.exactdec.proofs.Cuts.{IsUnit, IsMantissaCut, IsMantissaAlone, IsBareCut, IsPlainCut, IsPowerCut, IsCut, cut_split, split_cuts}
-use Rattle.exactdec.proofs.Grammar.{split_of_grammar, whole_of_grammar, sign_of_unit, point_of_unit, mark_of_unit, mantissa_of_cut, no_power_alone, power_of_cut}
+use Rattle.fixdec.specs.Word.{Parts, IsDigit, IsGrammatical, IsWord, BeginsWord, IsPlace, spelling}
+use Rattle.fixdec.specs.Reading.{is_digit, is_sign, is_point, is_mark, unit_front, digits_front, Split, split}
+use Rattle.exactdec.proofs.Cuts.{IsUnit, IsMantissaCut, IsBareCut, IsPowerCut, IsCut, cut_split, split_cuts}
+use Rattle.exactdec.proofs.Grammar.{split_of_grammar, sign_of_unit, point_of_unit, mark_of_unit, mantissa_of_cut, no_power_alone, power_of_cut}
 use Rattle.exactdec.proofs.Mantissas.{nil_from_length}
 use Rattle.exactdec.proofs.Splits.{split_join, length-split, spelling-append}
 

@@ -1,26 +1,25 @@
 -- The answer to a word.
-use Rattle.std.proofs.Common.{◌≡◌, ℕ, ℤ, pos, negsuc, ◌+◌, ◌-◌, ◌*◌, ◌^◌, ◌<◌, ◌≤◌, Bool, true, false, List, [], ◌∷◌, ◌++◌, length, refl, sym, ap, ◌∙◌, subst, arith, ◌⊎◌, inl, inr, Ok, Err, Some, None}
+use Rattle.std.proofs.Common.{◌≡◌, ℕ, ℤ, pos, ◌-◌, ◌*◌, ◌^◌, true, false, List, [], ◌∷◌, length, refl, sym, ap, ◌∙◌, subst, arith, inl, inr, Ok, Err, None}
 use Rattle.std.proofs.Math.Nat.{zero-mul}
 use Rattle.std.proofs.lemmas.Bool.{cases_Bool, cases_lt, lt-ltb, le-ltb, lt-leb, le-leb}
-use Rattle.std.proofs.lemmas.Bool.Decides.{eqb_tells}
 use Rattle.std.proofs.lemmas.Int.{ints}
-use Rattle.std.specs.Prelude.{Result, IfOk, ◌≤ℤ◌, ◌+ℤ◌, ◌-ℤ◌, ◌*ℤ◌, ◌==◌, nat_lt, neg_ℤ, if◌then◌else◌}
+use Rattle.std.specs.Prelude.{Result, IfOk, ◌+ℤ◌, ◌-ℤ◌, ◌*ℤ◌}
 use Rattle.std.specs.Result.{result_ok}
 use Rattle.fixdec.specs.Decimal.{Decimal, value, ten_power}
-use Rattle.fixdec.specs.Frac.{Frac, whole, neg_Q, ◌≈◌, ◌*Q◌}
-use Rattle.fixdec.specs.FracLaws.{≈_refl, ≈_sym, ≈_trans}
+use Rattle.fixdec.specs.Frac.{whole, neg_Q, ◌≈◌}
+use Rattle.fixdec.specs.FracLaws.{≈_refl, ≈_trans}
 use Rattle.fixdec.specs.IntLaws.{ringℤ}
 use Rattle.fixdec.specs.Ring.{var, neg, ◌⊗◌}
 use Rattle.fixdec.specs.Linear.{linear, fact, no_fact, reads}
 use Rattle.fixdec.specs.PowerLaws.{whole-mul, value-times, value-zero}
-use Rattle.fixdec.specs.Word.{Parts, AreDigits, Spells, IsWord, spelling, digits, from_first, significant, kept, written, signed, number, without_leading, without_trailing, IsReadable}
+use Rattle.fixdec.specs.Word.{Parts, AreDigits, Spells, spelling, digits, from_first, significant, kept, written, signed, number, IsReadable}
 use Rattle.fixdec.specs.Reading.{is_readable, Split, split, is_whole, decimal_of}
-use Rattle.exactdec.specs.Reading.{IsAnswer, IsAccepted, IsExponentFault, IsNotNumber, judged, reading}
+use Rattle.exactdec.specs.Reading.{IsAnswer, judged, reading}
 use Rattle.exactdec.specs.Stages.{bare, IsSplit, IsNotSplit, HasDigits}
 use Rattle.exactdec.specs.declared.read.DecFault.{DecFault}
-use Rattle.exactdec.specs.declared.read.DecFault.TheVariants.{NotNumber, Digits, Exponent}
+use Rattle.exactdec.specs.declared.read.DecFault.TheVariants.{NotNumber}
 use Rattle.exactdec.proofs.Digits.{number-leading, number-trailing}
-use Rattle.exactdec.proofs.Exponents.{sign_cases, sum_of}
+use Rattle.exactdec.proofs.Exponents.{sign_cases}
 use Rattle.exactdec.proofs.Grammar.{split_of_grammar, whole_of_grammar, grammar_of_whole}
 use Rattle.exactdec.proofs.Judged.{readable_from, kept-zero, kept-some, exponent}
 use Rattle.exactdec.proofs.Mantissas.{nil_from_length}

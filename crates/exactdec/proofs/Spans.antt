@@ -1,5 +1,5 @@
 -- Rounded products and quotients by powers of ten, and the cap.
-use Rattle.std.proofs.Common.{◌≡◌, ℕ, zero, suc, ℤ, pos, negsuc, ◌+◌, ◌-◌, ◌*◌, ◌/◌, ◌^◌, ◌<◌, ◌≤◌, Bool, true, false, refl, sym, ap, ◌∙◌, arith, lit<, to_z, of_z, min, ◌⊎◌, inl, inr}
+use Rattle.std.proofs.Common.{◌≡◌, ℕ, zero, suc, ℤ, pos, negsuc, ◌-◌, ◌*◌, ◌^◌, ◌<◌, ◌≤◌, true, false, refl, sym, ap, ◌∙◌, arith, lit<, to_z, of_z, min, inl, inr}
 use Rattle.std.proofs.Math.Nat.{div-eq_of_lt, pow-le-pow_right, mul-le-mul_left, mul-le-mul_right, one-le-pow}
 use Rattle.std.proofs.lemmas.Bool.{leb-true, leb-false, lt-leb, cases_lt}
 use Rattle.std.proofs.lemmas.Int.{ints, unsigned_abs-mul, to_z-of_z, fits_signed_mul, fits_signed_from_abs}
@@ -7,14 +7,12 @@ use Rattle.std.specs.Int.{w32, w128}
 use Rattle.std.specs.Int.Signed.{le_z}
 use Rattle.std.specs.Prelude.{◌≤ℤ◌, ◌+ℤ◌, ◌*ℤ◌, unsigned_abs, FitsSigned}
 use lib.IntN.{neg_ℤ}
-use Rattle.fixdec.specs.Ends.{Ends, InCap}
 use Rattle.fixdec.specs.Interval.{ends, fits_cap}
 use Rattle.fixdec.specs.Order.{cancel_le}
 use Rattle.fixdec.specs.PowerLaws.{power_above}
 use Rattle.fixdec.specs.Rounding.{floor, ceil, floor_below, ceil_above}
 use Rattle.fixdec.specs.Scaled.{floor_times, ceil_times}
 use Rattle.fixdec.specs.Word.{IsReadable}
-use Rattle.fixdec.specs.declared.step.Step.{Step}
 use Rattle.fixdec.specs.declared.step.Step.TheVariants.{Val, Lost}
 use Rattle.fixdec.specs.declared.step.Why.TheVariants.{Range}
 

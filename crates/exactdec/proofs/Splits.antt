@@ -1,8 +1,8 @@
 -- A word and its parts in front.
-use Rattle.std.proofs.Common.{◌≡◌, ℕ, ◌+◌, ◌-◌, ◌<◌, ◌≤◌, Bool, true, false, List, [], ◌∷◌, ◌++◌, length, refl, sym, ap, ◌∙◌, subst, arith, length-append, append_assoc, append-nil, ◌⊎◌, inl, inr}
+use Rattle.std.proofs.Common.{◌≡◌, ℕ, ◌+◌, ◌-◌, ◌<◌, Bool, true, false, List, [], ◌∷◌, ◌++◌, length, refl, sym, ap, ◌∙◌, arith, length-append, append_assoc, inl, inr}
 use Rattle.std.proofs.lemmas.Bool.{lt-ltb, le-ltb, ltb-true, ltb-false, eqb-true, cases_Bool}
 use Rattle.std.proofs.lemmas.Bool.Decides.{eqb_tells}
-use Rattle.std.specs.Prelude.{◌==◌, ◌&&◌, ◌||◌, nat_lt, if◌then◌else◌}
+use Rattle.std.specs.Prelude.{◌==◌, ◌&&◌, nat_lt}
 use Rattle.fixdec.specs.Word.{Parts, digits, spelling}
 use Rattle.fixdec.specs.Reading.{is_digit, is_sign, is_point, is_mark, unit_front, unit_after, digits_front, digits_after, Split, mantissa_front, power_front, has_power, split, is_whole}
 use Rattle.exactdec.specs.Stages.{bare, IsSplit, IsNotSplit}
@@ -55,9 +55,6 @@ split_join w = elim (cases_Bool (has_power (mantissa_front w))) [ inl h ↦ rw h
 
 pub length-split : (w : List ℕ) → length (spelling (split w).parts) + length (split w).rest ≡ length w
 length-split w = sym (length-append (spelling (split w).parts) (split w).rest) ∙ ap length (split_join w)
-
-pub length-mantissa : (w : List ℕ) → length (mantissa_front w).rest ≤ length w
-length-mantissa w = omega (arith, length-append (spelling (mantissa_front w).parts) (mantissa_front w).rest, ap length (mantissa_join w))
 
 -- no digits
 pub split-none : (w : List ℕ) → length (digits (mantissa_front w).parts) ≡ 0 → (split w ≡ mantissa_front w) × (is_whole (split w) ≡ false)
@@ -134,10 +131,7 @@ pub record IsBack (rest mark after sign behind power end : List ℕ) : Type 0 wh
   pub power_is : power ≡ digits_front behind
   pub end_is : end ≡ digits_after behind
 
--- the sign, digits and rest in front of what follows a mark
-abbrev pub sign_behind : List ℕ → List ℕ
-sign_behind rest = unit_front is_sign (unit_after is_mark rest)
-
+-- the digits behind a mark and a sign, and what follows them
 abbrev pub power_behind : List ℕ → List ℕ
 power_behind rest = digits_front (unit_after is_sign (unit_after is_mark rest))
 

@@ -1,7 +1,7 @@
 -- Zones, by the steps of their making.
-use Rattle.std.proofs.Common.{◌≡◌, ℕ, zero, suc, ℤ, pos, negsuc, ◌+◌, ◌*◌, ◌^◌, ◌<◌, ◌≤◌, Bool, true, false, refl, sym, ap, ◌∙◌, arith, Some, None, ◌⊎◌, inl, inr, subst, List, [], ◌∷◌}
+use Rattle.std.proofs.Common.{◌≡◌, ℕ, zero, suc, ℤ, pos, negsuc, ◌*◌, ◌^◌, ◌<◌, ◌≤◌, true, false, refl, sym, ap, ◌∙◌, arith, Some, None, inl, inr, subst, [], ◌∷◌}
 use Rattle.std.proofs.Math.Nat.{one-le-pow, mul-le-mul}
-use Rattle.std.proofs.lemmas.Bool.{leb-true, leb-false, le-leb, lt-leb, cases_lt}
+use Rattle.std.proofs.lemmas.Bool.{leb-false, le-leb, cases_lt}
 use Rattle.std.proofs.lemmas.Int.{ints, unsigned_abs-mul, fits_signed_from_abs}
 use Rattle.std.specs.Int.{w128}
 use Rattle.std.specs.Int.Signed.{le_z, lt_z}
@@ -10,7 +10,7 @@ use Rattle.fixdec.specs.Decimal.{Decimal, value, ten_power}
 use Rattle.fixdec.specs.Ends.{Ends, InCap}
 use Rattle.fixdec.specs.Interval.{ends, fits_cap}
 use Rattle.fixdec.specs.Scaled.{floor_times, ceil_times, dec_ceil}
-use Rattle.fixdec.specs.Frac.{Frac, whole, neg_Q, ◌≈◌, ◌*Q◌}
+use Rattle.fixdec.specs.Frac.{whole, neg_Q, ◌≈◌, ◌*Q◌}
 use Rattle.fixdec.specs.FracLaws.{is, is_mul, is_whole, same_if}
 use Rattle.fixdec.specs.Linear.{linear, fact, no_fact, reads}
 use Rattle.fixdec.specs.Member.{units}

@@ -1,5 +1,5 @@
 -- What the stages of reading give.
-use Rattle.std.specs.Prelude.{◌≡◌, ℕ, Bool, true, false, List, [], length}
+use Rattle.std.specs.Prelude.{◌≡◌, ℕ, true, false, List, [], length}
 use Rattle.fixdec.specs.Word.{Parts, AreDigits, spelling}
 use Rattle.fixdec.specs.Reading.{split, is_whole}
 use Rattle.exactdec.specs.declared.read.DecFault.{DecFault}

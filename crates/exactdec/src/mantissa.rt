@@ -3,7 +3,7 @@
 ghost use Rattle.std.specs.Prelude.{◌≡◌, ℕ, ◌+◌, ◌^◌, ◌<◌, ◌≤◌, List, ◌∷◌, [], ◌++◌, length, min};
 ghost use Rattle.fixdec.specs.Word.{IsDigit, AreDigits, signed as signed_number, number};
 
-const MINUS: u16 = 45;
+pub(crate) const MINUS: u16 = 45;
 
 pub(crate) const ZERO: u16 = 48;
 
@@ -87,8 +87,7 @@ impl Mantissa {
 
     /// The number with one more digit, which isn't 0.
     fn value_with(&self, digit: u16) -> u128
-        requires digit { IsDigit digit }
-        requires room { self.now.seen + 1 < 2 ^ 64 }
+        requires { IsDigit digit }
         ensures { self.now.seen < 30 → result ≡ self.now.value * 10 ^ (self.now.seen - self.now.kept + 1) + (digit - 48) }
     {
         if self.seen >= 30 {

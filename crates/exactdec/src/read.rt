@@ -9,7 +9,7 @@ ghost use Rattle.fixdec.specs.Reading.{is_digit as is_digit_unit, is_sign, is_po
 ghost use Rattle.exactdec.specs.Reading.{IsAnswer, reading, judged};
 ghost use Rattle.exactdec.specs.Stages.{IsSplit, IsNotSplit, HasDigits, parts_of};
 
-use crate::mantissa::{Mantissa, ZERO, power_of, signed};
+use crate::mantissa::{MINUS, Mantissa, ZERO, power_of, signed};
 use fixdec::dec::Dec;
 
 /// Why a word isn't read.
@@ -52,8 +52,6 @@ pub fn one_spelling()
 
 const PLUS: u16 = 43;
 
-const MINUS: u16 = 45;
-
 const POINT: u16 = 46;
 
 const NINE: u16 = 57;
@@ -85,6 +83,7 @@ fn split(word: &[u16]) -> Result<Parts<'_>, DecFault>
         if !front.rest.is_empty() {
             return Err(not_number(word, front.rest));
         }
+        // With no mark there is no exponent: both its parts are empty.
         return Ok(front.with_power(mark, mark));
     }
     let (sign, after) = split_sign(after);

@@ -56,7 +56,9 @@ pub(crate) fn ends(mant: i128, k: i32) -> Step<Span>
         return product(mant, k as u32);
     }
     let unit = pow10(k.unsigned_abs().min(38));
-    in_cap(floor_div(mant, unit), ceil_div(mant, unit))
+    let lo = floor_div(mant, unit);
+    let hi = ceil_div(mant, unit);
+    in_cap(lo, hi)
 }
 
 fn product(mant: i128, k: u32) -> Step<Span>

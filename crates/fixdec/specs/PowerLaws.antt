@@ -6,27 +6,24 @@ use Rattle.std.proofs.lemmas.Nat.{pow-add}
 use Rattle.std.specs.Bool.{Decides}
 use Rattle.std.specs.Cmp.{signed_Decides}
 use Rattle.std.specs.Ordering.{int_eq}
-use Rattle.std.specs.Prelude.{ℤ, pos, negsuc, ◌+ℤ◌, ◌*ℤ◌, ◌≤ℤ◌, ◌&&◌, if◌then◌else◌}
+use Rattle.std.specs.Prelude.{ℤ, pos, negsuc, ◌+ℤ◌, ◌*ℤ◌, ◌&&◌, if◌then◌else◌}
 use borrow.Author.Differences.{up, down}
 use Rattle.fixdec.specs.Decimal.{Decimal, tenth_power, ten_power, value}
 use Rattle.fixdec.specs.Ends.{Ends}
-use Rattle.fixdec.specs.Frac.{Frac, den, whole, neg_Q, ◌≈◌, ◌≤Q◌, ◌*Q◌, ◌-Q◌}
+use Rattle.fixdec.specs.Frac.{Frac, den, whole, neg_Q, ◌≈◌, ◌*Q◌, ◌-Q◌}
 use Rattle.fixdec.specs.FracLaws.{Is, is, is_mul, is_whole, same_if, cancel, ≈_sym, ≈_trans}
 use Rattle.fixdec.specs.IntLaws.{ringℤ}
 use Rattle.fixdec.specs.Interval.{ends, fits_cap}
 use Rattle.fixdec.specs.Linear.{linear, fact, no_fact, reads}
 use Rattle.fixdec.specs.Member.{IsMember, units}
-use Rattle.fixdec.specs.Order.{along, le_of_same, le_refl, le_trans, le_whole_out}
+use Rattle.fixdec.specs.Order.{le_of_same, le_refl, le_trans, le_whole_out}
 use Rattle.fixdec.specs.Ring.{var, con, ◌⊗◌}
-use Rattle.fixdec.specs.Rounding.{floor, ceil, ratio, IsFloor, IsCeil}
+use Rattle.fixdec.specs.Rounding.{ratio, IsFloor, IsCeil}
 use Rattle.fixdec.specs.RoundingLaws.{ratio_is, floor_is, ceil_is}
 use Rattle.fixdec.specs.Scaled.{floor_times, ceil_times, dec_floor, dec_ceil, dec_span, dec_shifted}
 use Rattle.fixdec.specs.Steps.{OnVal}
 use Rattle.fixdec.specs.declared.step.Step.TheVariants.{Val, Lost}
 use Rattle.fixdec.specs.declared.step.Why.TheVariants.{Range}
-
-pub le_if : {x y : Frac} {n d m e : ℤ} → Is x n d → Is y m e → (n *ℤ e) ≤ℤ (m *ℤ d) → x ≤Q y
-le_if p q h = record { cross = along (sym (λ i. p.num i *ℤ q.den i)) (sym (λ i. q.num i *ℤ p.den i)) h }
 
 -- a positive factor cancels
 pub cancel_same : (x y : Frac) (k : ℕ) → x *Q whole (pos (suc k)) ≈ y *Q whole (pos (suc k)) → x ≈ y

@@ -1,5 +1,5 @@
 -- The decimal of a word, found by taking the word apart from the left.
-use Rattle.std.specs.Prelude.{◌==◌, ◌&&◌, ◌||◌, ℕ, ℤ, pos, ◌+◌, Bool, true, false, List, [], ◌∷◌, length, drop, nat_le, nat_lt, int_le, neg_ℤ, Option, Some, None, if◌then◌else◌}
+use Rattle.std.specs.Prelude.{◌==◌, ◌&&◌, ◌||◌, ℕ, ℤ, pos, Bool, List, [], ◌∷◌, length, nat_le, nat_lt, int_le, neg_ℤ, Option, Some, None, if◌then◌else◌}
 use Rattle.fixdec.specs.Decimal.{Decimal}
 use Rattle.fixdec.specs.Word.{Parts, digits, significant, kept}
 

@@ -1,7 +1,6 @@
-use Rattle.std.proofs.Common.{◌≡◌, ℕ, ◌≤◌, ◌/◌, ◌<◌, ◌^◌, ◌+◌, ◌++◌, length, ap, ◌∙◌, sym, arith, length-append}
+use Rattle.std.proofs.Common.{ℕ, length, ap, arith, length-append}
 use Rattle.std.proofs.lemmas.Int.{to_z-of_z}
 use Rattle.std.specs.Int.{w32, cast_unsigned}
-use Rattle.fixdec.specs.Decimal.{Decimal}
 use Rattle.exactdec.proofs.Texts.{dec_text_steps, dec_text_whole, small_mant, length-exp, fits_mant, fits_exp, zero_bits}
 use Rattle.exactdec.proofs.print.print_dec.Goals as goal
 

@@ -1,4 +1,4 @@
-use Rattle.std.proofs.Common.{◌≡◌, ℕ, ◌≤◌, ◌/◌, ◌<◌, ◌^◌, ◌+◌, ◌++◌, length, ap, ◌∙◌, sym, arith, length-append}
+use Rattle.std.proofs.Common.{ℕ, ◌/◌, length, ap, arith, length-append}
 use Rattle.std.proofs.Math.Nat.{one-le-pow}
 use Rattle.std.proofs.lemmas.Int.{to_z-of_z}
 use Rattle.std.specs.Fmt.{decimal}

@@ -1,4 +1,4 @@
-use Rattle.std.proofs.Common.{ℕ, ℤ, ◌<◌, ◌^◌, length, subst, arith}
+use Rattle.std.proofs.Common.{ℤ, ◌<◌, ◌^◌, length, subst, arith}
 use Rattle.fixdec.specs.Word.{number}
 use Rattle.exactdec.proofs.Exponents.{IsJudged, judged_capped, size_capped, sum_is}
 use Rattle.exactdec.proofs.read.exponent_of.Goals as goal

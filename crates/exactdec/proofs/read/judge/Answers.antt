@@ -1,12 +1,10 @@
-use Rattle.std.proofs.Common.{◌≡◌, ℕ, ℤ, ◌+◌, ◌-◌, ◌<◌, ◌≤◌, ◌^◌, Some, length, sym, ap, ◌∙◌, arith}
+use Rattle.std.proofs.Common.{◌<◌, ◌≤◌, ◌^◌, sym, arith}
 use Rattle.std.proofs.Math.Nat.{pow-le-pow_right}
-use Rattle.std.proofs.lemmas.Int.{to_z-of_z, fits_signed_from_abs}
-use Rattle.std.specs.Int.{w32, w128}
+use Rattle.std.proofs.lemmas.Int.{to_z-of_z}
+use Rattle.std.specs.Int.{w128}
 use Rattle.std.specs.Prelude.{FitsSigned}
-use Rattle.fixdec.specs.Word.{Parts, digits, signed, number}
 use Rattle.exactdec.specs.Stages.{parts_of}
 use Rattle.exactdec.proofs.Digits.{digits_both}
-use Rattle.exactdec.proofs.Exponents.{sum_of, IsJudged}
 use Rattle.exactdec.proofs.Judged.{judged_long, judged_zero, past_steps, kept_steps, kept_type, fits_exponent}
 use Rattle.exactdec.proofs.read.judge.Goals as goal
 

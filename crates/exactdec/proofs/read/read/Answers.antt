@@ -1,8 +1,6 @@
-use Rattle.std.proofs.Common.{sym, subst, ◌∙◌, ap}
+use Rattle.std.proofs.Common.{◌∙◌}
 use Rattle.std.proofs.lemmas.Result.{err_from_is_err_and}
-use Rattle.fixdec.specs.Word.{Parts}
-use Rattle.exactdec.specs.Reading.{judged}
-use Rattle.exactdec.specs.Stages.{HasDigits, parts_of}
+use Rattle.exactdec.specs.Stages.{parts_of}
 use Rattle.exactdec.proofs.Readings.{reading_fault, reading_parts, parts_digits, answer_of, value_of, decimal_from}
 use Rattle.exactdec.proofs.read.read.Goals as goal
 

@@ -1,7 +1,7 @@
 use Rattle.std.proofs.Common.{sym, subst}
 use Rattle.fixdec.specs.Word.{Parts}
 use Rattle.exactdec.specs.Stages.{IsSplit}
-use Rattle.exactdec.proofs.Splits.{IsFront, IsBack, none_fault, plain_fault, plain_found, power_fault, power_found, no_power, more_behind, all_read}
+use Rattle.exactdec.proofs.Splits.{none_fault, plain_fault, plain_found, power_fault, power_found, no_power, more_behind, all_read}
 use Rattle.exactdec.proofs.read.split.Goals as goal
 
 pub returns-then-not-has_digits-clause-fault : goal.returns-then-not-has_digits-clause-fault

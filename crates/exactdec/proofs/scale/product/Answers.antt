@@ -3,7 +3,7 @@ use Rattle.std.proofs.lemmas.Int.{to_z-of_z}
 use Rattle.std.specs.Int.{w128}
 use Rattle.std.specs.Prelude.{◌*ℤ◌, FitsSigned}
 use lib.IntN.{zero-*ℤ}
-use Rattle.fixdec.specs.Interval.{ends, fits_cap}
+use Rattle.fixdec.specs.Interval.{ends}
 use Rattle.exactdec.proofs.Spans.{ends_lost_lo, past_cap, far_past_cap, zero_from_bits, in_cap_times}
 use Rattle.exactdec.proofs.scale.product.Goals as goal
 

@@ -1,7 +1,6 @@
-use Rattle.std.proofs.Common.{◌≡◌, ℕ, ℤ, pos, sym, subst, ◌∙◌, ap, arith, of_z}
-use Rattle.std.proofs.lemmas.Int.{ints, to_z-of_z}
-use Rattle.std.specs.Int.{w32, w128}
-use Rattle.std.specs.Prelude.{◌+ℤ◌, FitsSigned}
+use Rattle.std.proofs.Common.{ℤ, sym, subst, ◌∙◌, ap, of_z}
+use Rattle.std.proofs.lemmas.Int.{to_z-of_z}
+use Rattle.std.specs.Int.{w128}
 use Rattle.fixdec.specs.Decimal.{Decimal, value, ten_power}
 use Rattle.fixdec.specs.Frac.{◌≈◌, ◌*Q◌}
 use Rattle.fixdec.specs.PowerLaws.{dec_shifted-zero, dec_shifted-some, value-shifted}

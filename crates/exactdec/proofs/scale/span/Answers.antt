@@ -1,8 +1,7 @@
-use Rattle.std.proofs.Common.{◌≡◌, ℕ, ℤ, pos, sym, subst, ◌∙◌, ap, arith}
-use Rattle.std.proofs.lemmas.Int.{ints, to_z-of_z, to_z_pos}
+use Rattle.std.proofs.Common.{sym, subst, arith}
+use Rattle.std.proofs.lemmas.Int.{to_z-of_z, to_z_pos}
 use Rattle.std.specs.Int.{w32}
-use Rattle.std.specs.Prelude.{◌+ℤ◌, FitsSigned}
-use Rattle.fixdec.specs.Decimal.{Decimal, value}
+use Rattle.fixdec.specs.Decimal.{value}
 use Rattle.fixdec.specs.Ends.{Ends}
 use Rattle.fixdec.specs.Member.{IsMember}
 use Rattle.fixdec.specs.PowerLaws.{dec_span_member, dec_floor_is, dec_ceil_is}

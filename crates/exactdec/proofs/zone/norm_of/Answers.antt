@@ -1,7 +1,6 @@
-use Rattle.std.proofs.Common.{ℕ, ℤ, pos, ◌^◌, ◌≤◌, ◌≡◌, sym, subst, ◌∙◌, ap, arith}
+use Rattle.std.proofs.Common.{ℕ, ℤ, ◌≡◌, sym, subst, ◌∙◌, ap, arith}
 use Rattle.std.proofs.lemmas.Int.{ints, to_z-of_z}
-use Rattle.std.specs.Int.{w32, w128}
-use Rattle.std.specs.Prelude.{unsigned_abs, FitsSigned}
+use Rattle.std.specs.Prelude.{unsigned_abs}
 use Rattle.fixdec.specs.Ends.{Ends}
 use Rattle.fixdec.specs.Zone.{norm, IsNorm, least_power}
 use Rattle.exactdec.proofs.Norms.{norm_is, size_of_zone}

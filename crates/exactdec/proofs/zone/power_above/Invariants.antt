@@ -1,4 +1,4 @@
-use Rattle.std.proofs.Common.{◌≡◌, ◌-◌, ◌≤◌}
+use Rattle.std.proofs.Common.{◌≡◌, ◌-◌}
 use Rattle.fixdec.specs.Zone.{least_power}
 use Rattle.exactdec.proofs.zone.power_above.Given as goal
 

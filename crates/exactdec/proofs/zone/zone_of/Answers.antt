@@ -1,10 +1,6 @@
-use Rattle.std.proofs.Common.{◌≡◌, ℕ, ℤ, pos, sym, subst, ◌∙◌, ap, arith, of_z}
-use Rattle.std.proofs.lemmas.Int.{ints, to_z-of_z, fits_signed_from_abs}
-use Rattle.std.specs.Int.{w32, w128}
-use Rattle.std.specs.Prelude.{◌+ℤ◌, ◌*ℤ◌, FitsSigned, Option}
-use Rattle.fixdec.specs.Decimal.{Decimal}
+use Rattle.std.proofs.Common.{◌∙◌, ap, arith}
+use Rattle.std.proofs.lemmas.Int.{to_z-of_z}
 use Rattle.fixdec.specs.Ends.{Ends}
-use Rattle.fixdec.specs.Zone.{zone_span}
 use Rattle.fixdec.specs.declared.step.Step.{Step}
 use Rattle.fixdec.specs.declared.step.Step.TheVariants.{Val}
 use Rattle.exactdec.proofs.Texts.{fits_mant, fits_exp}

@@ -1,4 +1,4 @@
-use Rattle.std.proofs.Common.{ℕ, ◌+◌, ◌-◌, ◌*◌, ◌^◌, ◌<◌, ◌≤◌, arith}
+use Rattle.std.proofs.Common.{◌+◌, ◌-◌, ◌*◌, ◌^◌, ◌<◌, ◌≤◌, arith}
 use Rattle.std.proofs.Math.Nat.{pow-le-pow_right}
 use Rattle.exactdec.proofs.Mantissas.{with_digit_below}
 use Rattle.exactdec.proofs.mantissa.Mantissa.value_with.Goals as goal
@@ -13,7 +13,7 @@ below : (c : goal.After-pow) → c.args.self.now.value * c.pow.result + (c.args.
 below c =
     let m = c.args.self.now in
     let fits : m.value < 10 ^ m.kept = m.bounded (omega arith) in
-    let sum = with_digit_below m.value m.kept m.seen c.args.digit fits m.ordered c.requires.digit in
+    let sum = with_digit_below m.value m.kept m.seen c.args.digit fits m.ordered c.requires in
     let most : 10 ^ (m.seen + 1) ≤ 10 ^ 30 = pow-le-pow_right {n = 10} (omega arith) {i = m.seen + 1} {j = 30} (omega arith) in
     rw c.pow.ensures (omega arith)
 

@@ -1,4 +1,4 @@
-use Rattle.std.proofs.Common.{◌≡◌, ◌+◌, ◌-◌, ◌*◌, ◌^◌, ◌<◌, ◌≤◌, arith}
+use Rattle.std.proofs.Common.{◌^◌, ◌<◌, arith}
 use Rattle.exactdec.proofs.Digits.{other_digit}
 use Rattle.exactdec.proofs.Mantissas.{kept_of_other, with_digit_below}
 use Rattle.exactdec.proofs.mantissa.Mantissa.with.Goals as goal
