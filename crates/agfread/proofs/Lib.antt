@@ -1,0 +1,5 @@
+pub mod Cut
+pub mod Steps
+pub mod Lines
+pub mod Growth
+pub mod Books

@@ -1,0 +1,177 @@
+-- One more line: what it says of the catalogue, by what the reader did with it.
+use Rattle.std.proofs.Common.{◌≡◌, ℕ, ◌+◌, Bool, true, false, List, [], ◌∷◌, ◌++◌, refl, sym, ap, subst, ◌∙◌, arith}
+use Rattle.std.specs.Prelude.{Option, Some, None, Result, Ok, Err, OnOk, nat_eq, codes, if◌then◌else◌}
+use lib.Pointwise.{pointwise}
+use Rattle.lensmodel.specs.Catalogue.{Words, is_NM, is_CD, is_LD, last_where, count_where, glass_of, is_used, offence, NM_offence, CD_offence, LD_offence}
+use Rattle.lensmodel.specs.declared.glass.Glass.{Glass}
+use Rattle.agfread.specs.Records.{with_coefficients, with_bounds, NM_fault, open_CD_fault, open_LD_fault, after_CD, after_LD}
+use Rattle.agfread.proofs.Growth.{last_where-append, count_where-append, all_glasses-begins, all_glasses-grows, on_last, on_last-append, Changes, CD-changes, LD-changes, others-change}
+use Rattle.agfread.proofs.Books.{same-yes, book-append}
+use Rattle.agfread.specs.Walked.{Walked, OpenAt, closed_with, with_glass}
+use Rattle.agfread.specs.Readers.{IsAt}
+use Rattle.agfread.specs.Tags.{tag_of}
+use Rattle.agfread.specs.declared.record.Tag.TheVariants.{Nm, Cd, Ld, Other}
+use Rattle.agfread.specs.declared.walk.Reader.{Reader}
+
+-- ---- tags
+by-NM : (n c d : Bool) → (if n then Nm else if c then Cd else if d then Ld else Other) ≡ Nm → n ≡ true
+by-NM true c d h = refl
+by-NM false true d h = cc
+by-NM false false true h = cc
+by-NM false false false h = cc
+
+by-CD : (n c d : Bool) → (if n then Nm else if c then Cd else if d then Ld else Other) ≡ Cd → (n ≡ false) × (c ≡ true)
+by-CD true c d h = absurd (cc)
+by-CD false true d h = (refl, refl)
+by-CD false false true h = absurd (cc)
+by-CD false false false h = absurd (cc)
+
+by-LD : (n c d : Bool) → (if n then Nm else if c then Cd else if d then Ld else Other) ≡ Ld → (n ≡ false) × (c ≡ false) × (d ≡ true)
+by-LD true c d h = absurd (cc)
+by-LD false true d h = absurd (cc)
+by-LD false false true h = (refl, refl, refl)
+by-LD false false false h = absurd (cc)
+
+by-Other : (n c d : Bool) → (if n then Nm else if c then Cd else if d then Ld else Other) ≡ Other → (n ≡ false) × (c ≡ false) × (d ≡ false)
+by-Other true c d h = absurd (cc)
+by-Other false true d h = absurd (cc)
+by-Other false false true h = absurd (cc)
+by-Other false false false h = (refl, refl, refl)
+
+CD-not-LD : (l : Words) → is_CD l ≡ true → is_LD l ≡ false
+CD-not-LD [] h = refl
+CD-not-LD (w ∷ more) h = ap (λ (x : List ℕ). pointwise nat_eq x (codes "LD")) (same-yes w (codes "CD") h)
+
+-- ---- offences
+NM-offence : (n : ℕ) (before : List Words) (l : Words) (seen : ℕ) → is_NM l ≡ true → seen ≡ count_where is_NM before → offence n before l ≡ NM_fault n seen l
+NM-offence n before l seen h e = ap (λ b. if b then NM_offence n before l else if is_CD l then CD_offence n (last_where is_NM before) l else if is_LD l then LD_offence n (last_where is_NM before) l else None) h
+    ∙ sym (ap (λ k. NM_fault n k l) e)
+
+CD-offence : (n : ℕ) (before : List Words) (l : Words) (o : Option Glass) (held : List Glass) → is_NM l ≡ false → is_CD l ≡ true → Walked before o held
+    → offence n before l ≡ open_CD_fault n o l
+CD-offence n before l None held h c w = rw (h, c, w.last) refl
+CD-offence n before l (Some g) held h c w = rw (h, c, w.last, w.formula) refl
+
+LD-offence : (n : ℕ) (before : List Words) (l : Words) (o : Option Glass) (held : List Glass) → is_NM l ≡ false → is_CD l ≡ false → is_LD l ≡ true → Walked before o held
+    → offence n before l ≡ open_LD_fault n o l
+LD-offence n before l None held h c d w = rw (h, c, d, w.last) refl
+LD-offence n before l (Some g) held h c d w = rw (h, c, d, w.last) refl
+
+-- ---- glasses
+abbrev pub changed : (Glass → Glass) → Option Glass → Option Glass
+changed change None = None
+changed change (Some g) = Some (change g)
+
+NM-walked : (before : List Words) (l : Words) (o : Option Glass) (held next : List Glass) → is_NM l ≡ true → Walked before o held
+    → next ≡ closed_with o held → OpenAt (before ++ l ∷ []) (glass_of l []) next
+NM-walked before l None held next h w e = record {
+  closed = [];
+  all = all_glasses-begins before l h ∙ ap (λ gs. gs ++ glass_of l [] ∷ []) w.all;
+  held_is = e ∙ w.held_is;
+  nm = l;
+  last = last_where-append is_NM before l ∙ rw h refl;
+  formula = refl;
+}
+NM-walked before l (Some g) held next h w e = record {
+  closed = w.closed ++ g ∷ [];
+  all = all_glasses-begins before l h ∙ ap (λ gs. gs ++ glass_of l [] ∷ []) w.all;
+  held_is = e ∙ ap (with_glass g) w.held_is ∙ sym (book-append w.closed g);
+  nm = l;
+  last = last_where-append is_NM before l ∙ rw h refl;
+  formula = refl;
+}
+
+grown : (before : List Words) (l : Words) (change : Glass → Glass) (o : Option Glass) (held : List Glass) → Changes l change
+    → ((g : Glass) → (change g).formula ≡ g.formula) → Walked before o held → Walked (before ++ l ∷ []) (changed change o) held
+grown before l change None held ch keeps w = record {
+  all = all_glasses-grows before l change ch ∙ ap (on_last change) w.all;
+  held_is = w.held_is;
+  last = last_where-append is_NM before l ∙ rw ch.inner w.last;
+}
+grown before l change (Some g) held ch keeps w = record {
+  closed = w.closed;
+  all = all_glasses-grows before l change ch ∙ ap (on_last change) w.all ∙ on_last-append change w.closed g;
+  held_is = w.held_is;
+  nm = w.nm;
+  last = last_where-append is_NM before l ∙ rw ch.inner w.last;
+  formula = keeps g ∙ w.formula;
+}
+
+along : (before : List Words) (o p : Option Glass) (held next : List Glass) → p ≡ o → next ≡ held → Walked before o held → Walked before p next
+along before o p held next e f w = subst (λ (x : Option Glass). Walked before x next) (sym e) (subst (λ (x : List Glass). Walked before o x) (sym f) w)
+
+-- ---- the reader
+pub NM-step : (n : ℕ) (before : List Words) (l : Words) (r next : Reader) → tag_of l ≡ Nm → IsAt before r → NM_fault n r.seen l ≡ None
+    → next.current ≡ Some (glass_of l []) → next.book ≡ closed_with r.current r.book → next.seen ≡ r.seen + 1
+    → (offence n before l ≡ None) × IsAt (before ++ l ∷ []) next
+NM-step n before l r next t at f o b s =
+    let h = by-NM (is_NM l) (is_CD l) (is_LD l) t in (
+      NM-offence n before l r.seen h at.seen ∙ f,
+      record {
+        seen = s ∙ rw (count_where-append is_NM before l, h) (omega (arith, at.seen));
+        walked = along (before ++ l ∷ []) (Some (glass_of l [])) next.current next.book next.book o refl (NM-walked before l r.current r.book next.book h at.walked b);
+      },
+    )
+
+not-NM-count : (before : List Words) (l : Words) (r next : Reader) → is_NM l ≡ false → IsAt before r → next.seen ≡ r.seen
+    → next.seen ≡ count_where is_NM (before ++ l ∷ [])
+not-NM-count before l r next h at s = s ∙ at.seen ∙ sym (count_where-append is_NM before l ∙ rw h refl)
+
+after_CD-is : (l : Words) (o : Option Glass) → after_CD l o ≡ changed (λ g. if is_used g.formula then with_coefficients l g else g) o
+after_CD-is l None = refl
+after_CD-is l (Some g) = refl
+
+after_LD-is : (l : Words) (o : Option Glass) → after_LD l o ≡ changed (with_bounds l) o
+after_LD-is l None = refl
+after_LD-is l (Some g) = refl
+
+unchanged : (o : Option Glass) → o ≡ changed (λ g. g) o
+unchanged None = refl
+unchanged (Some g) = refl
+
+keeps-formula : (l : Words) (g : Glass) → (if is_used g.formula then with_coefficients l g else g).formula ≡ g.formula
+keeps-formula l g = elim (is_used g.formula) as (λ b. (if b then with_coefficients l g else g).formula ≡ g.formula) [ true ↦ refl | false ↦ refl ]
+
+pub CD-step : (n : ℕ) (before : List Words) (l : Words) (r next : Reader) → tag_of l ≡ Cd → IsAt before r → open_CD_fault n r.current l ≡ None
+    → next.current ≡ after_CD l r.current → next.book ≡ r.book → next.seen ≡ r.seen
+    → (offence n before l ≡ None) × IsAt (before ++ l ∷ []) next
+CD-step n before l r next t at f o b s =
+    let h = by-CD (is_NM l) (is_CD l) (is_LD l) t in
+    let change = λ (g : Glass). if is_used g.formula then with_coefficients l g else g in (
+      CD-offence n before l r.current r.book h.0 h.1 at.walked ∙ f,
+      record {
+        seen = not-NM-count before l r next h.0 at s;
+        walked = along (before ++ l ∷ []) (changed change r.current) next.current r.book next.book (o ∙ after_CD-is l r.current) b
+            (grown before l change r.current r.book (CD-changes l h.0 h.1 (CD-not-LD l h.1)) (keeps-formula l) at.walked);
+      },
+    )
+
+pub LD-step : (n : ℕ) (before : List Words) (l : Words) (r next : Reader) → tag_of l ≡ Ld → IsAt before r → open_LD_fault n r.current l ≡ None
+    → next.current ≡ after_LD l r.current → next.book ≡ r.book → next.seen ≡ r.seen
+    → (offence n before l ≡ None) × IsAt (before ++ l ∷ []) next
+LD-step n before l r next t at f o b s =
+    let h = by-LD (is_NM l) (is_CD l) (is_LD l) t in (
+      LD-offence n before l r.current r.book h.0 h.1 h.2 at.walked ∙ f,
+      record {
+        seen = not-NM-count before l r next h.0 at s;
+        walked = along (before ++ l ∷ []) (changed (with_bounds l) r.current) next.current r.book next.book (o ∙ after_LD-is l r.current) b
+            (grown before l (with_bounds l) r.current r.book (LD-changes l h.0 h.1 h.2) (λ g. refl) at.walked);
+      },
+    )
+
+pub other-step : (n : ℕ) (before : List Words) (l : Words) (r : Reader) → tag_of l ≡ Other → IsAt before r
+    → (offence n before l ≡ None) × IsAt (before ++ l ∷ []) r
+other-step n before l r t at =
+    let h = by-Other (is_NM l) (is_CD l) (is_LD l) t in (
+      rw (h.0, h.1, h.2) refl,
+      record {
+        seen = not-NM-count before l r r h.0 at refl;
+        walked = along (before ++ l ∷ []) (changed (λ g. g) r.current) r.current r.book r.book (unchanged r.current) refl
+            (grown before l (λ g. g) r.current r.book (others-change l h.0 h.1 h.2) (λ g. refl) at.walked);
+      },
+    )
+
+-- ---- answers that are Ok
+pub on_ok4 : {T E : Type 0} {A B C D X : Type 0} (r : Result T E) → (A → B → C → D → X) → OnOk r A → OnOk r B → OnOk r C → OnOk r D → OnOk r X
+on_ok4 (Ok u) f a b c d = f a b c d
+on_ok4 (Err e) f a b c d = tt

@@ -1,0 +1,4 @@
+pub mod Records
+pub mod Tags
+pub mod Walked
+pub mod Readers

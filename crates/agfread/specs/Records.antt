@@ -1,0 +1,68 @@
+-- What one record of a catalogue says, word by word. A line is its list of words.
+use Rattle.std.specs.Prelude.{ℕ, zero, suc, Bool, true, false, [], ◌∷◌, nat_le, nat_lt, length, take, drop, Option, Some, None, if◌then◌else◌}
+use Rattle.fixdec.specs.Reading.{decimal_of}
+use Rattle.lensmodel.specs.Catalogue.{Words, word_at, or_first, fault_if, bad_unless, no_formula, formula_of, is_used, coefficient_in, bound_in, first_bad}
+use Rattle.lensmodel.specs.declared.fault.AgfFault.{AgfFault}
+use Rattle.lensmodel.specs.declared.fault.AgfFault.TheVariants.{BadNumber, LongName, MissingWord, OrphanRecord, TooManyGlasses}
+use Rattle.lensmodel.specs.declared.glass.Glass.{Glass}
+
+-- whether a line has a word of a number, counted from 0
+abbrev pub has_word : ℕ → Words → Bool
+has_word k [] = false
+has_word zero (w ∷ more) = true
+has_word (suc k) (w ∷ more) = has_word k more
+
+-- the fault of a word, counted from 0, that is there and isn't a decimal
+abbrev pub word_fault : ℕ → ℕ → Words → Option AgfFault
+word_fault n k line = if has_word k line then bad_unless (decimal_of (word_at k line)) (BadNumber n (suc k)) else None
+
+-- a glass with the coefficients of a CD line
+abbrev pub with_coefficients : Words → Glass → Glass
+with_coefficients line g = record g {
+  c0 = coefficient_in true (Some line) 1;
+  c1 = coefficient_in true (Some line) 2;
+  c2 = coefficient_in true (Some line) 3;
+  c3 = coefficient_in true (Some line) 4;
+  c4 = coefficient_in true (Some line) 5;
+  c5 = coefficient_in true (Some line) 6;
+}
+
+-- a glass with the bounds of an LD line
+abbrev pub with_bounds : Words → Glass → Glass
+with_bounds line g = record g { low = bound_in (Some line) 1; high = bound_in (Some line) 2 }
+
+-- the faults of an NM line behind a number of others
+abbrev pub NM_fault : ℕ → ℕ → Words → Option AgfFault
+NM_fault n seen line =
+    or_first (fault_if (nat_lt (length line) 3) (MissingWord n))
+    (or_first (fault_if (no_formula (formula_of (word_at 2 line))) (BadNumber n 3))
+    (or_first (fault_if (nat_lt 40 (length (word_at 1 line))) (LongName n))
+    (fault_if (nat_le 4096 seen) (TooManyGlasses n))))
+
+-- the faults of a CD line that is used
+abbrev pub CD_fault : ℕ → Words → Option AgfFault
+CD_fault n line = first_bad n 2 (take 6 (drop 1 line))
+
+-- the faults of an LD line of a glass
+abbrev pub LD_fault : ℕ → Words → Option AgfFault
+LD_fault n line = or_first (fault_if (nat_lt (length line) 3) (MissingWord n)) (first_bad n 2 (take 2 (drop 1 line)))
+
+-- the faults of a CD line, where a glass may be open
+abbrev pub open_CD_fault : ℕ → Option Glass → Words → Option AgfFault
+open_CD_fault n None line = Some (OrphanRecord n)
+open_CD_fault n (Some g) line = if is_used g.formula then CD_fault n line else None
+
+-- the faults of an LD line, where a glass may be open
+abbrev pub open_LD_fault : ℕ → Option Glass → Words → Option AgfFault
+open_LD_fault n None line = Some (OrphanRecord n)
+open_LD_fault n (Some g) line = LD_fault n line
+
+-- the open glass after a CD line
+abbrev pub after_CD : Words → Option Glass → Option Glass
+after_CD line None = None
+after_CD line (Some g) = Some (if is_used g.formula then with_coefficients line g else g)
+
+-- the open glass after an LD line
+abbrev pub after_LD : Words → Option Glass → Option Glass
+after_LD line None = None
+after_LD line (Some g) = Some (with_bounds line g)

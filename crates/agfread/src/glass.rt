@@ -1,0 +1,109 @@
+//! The glass of a record.
+
+ghost use Rattle.std.specs.Prelude.{◌≡◌, ◌≤◌, ◌<◌, [], Some, None, length, IfOk, IfErr, OnOk};
+ghost use Rattle.lensmodel.specs.Catalogue.{glass_of};
+ghost use Rattle.lensmodel.specs.TextLines.{words};
+ghost use Rattle.lensmodel.specs.Values.{zero_decimal};
+ghost use Rattle.agfread.specs.Records.{NM_fault, CD_fault, LD_fault, with_coefficients, with_bounds};
+
+use crate::number::{formula, number};
+use crate::record::Record;
+use arrayvec::ArrayVec;
+use fixdec::dec::Dec;
+use lensmodel::fault::AgfFault;
+use lensmodel::glass::Glass;
+use lensmodel::name::Name;
+
+/// The glass that an NM line begins, the one after `seen` others.
+pub fn begun(line: &Record<'_>, at: u32, seen: u32) -> Result<Glass, AgfFault>
+    ensures glass { IfOk result (λ g. g ≡ glass_of (words line.now.units.now) []) }
+    ensures sound { IfOk result (λ g. NM_fault at seen (words line.now.units.now) ≡ None) }
+    ensures fault { IfErr result (λ f. NM_fault at seen (words line.now.units.now) ≡ Some f) }
+{
+    let Some(word) = line.word(2) else {
+        return Err(AgfFault::MissingWord { line: at });
+    };
+    let Some(name) = line.word(1) else {
+        return Err(AgfFault::MissingWord { line: at });
+    };
+    let Some(formula) = formula(word) else {
+        return Err(AgfFault::BadNumber { line: at, word: 3 });
+    };
+    if name.len() > 40 {
+        return Err(AgfFault::LongName { line: at });
+    }
+    if seen >= 4096 {
+        return Err(AgfFault::TooManyGlasses { line: at });
+    }
+    Ok(bare(name, formula))
+}
+
+/// A glass without coefficients and bounds.
+fn bare(name: &[u16], formula: u32) -> Glass
+    requires { length name.now ≤ 40 }
+    ensures { result ≡ record {
+      name = record { items = name.now };
+      formula = formula;
+      c0 = zero_decimal;
+      c1 = zero_decimal;
+      c2 = zero_decimal;
+      c3 = zero_decimal;
+      c4 = zero_decimal;
+      c5 = zero_decimal;
+      low = None;
+      high = None;
+    } }
+{
+    let mut units: Name = ArrayVec::new();
+    let _ = units.try_extend_from_slice(name);
+    let zero = Dec::default();
+    Glass {
+        name: units,
+        formula,
+        c0: zero,
+        c1: zero,
+        c2: zero,
+        c3: zero,
+        c4: zero,
+        c5: zero,
+        low: None,
+        high: None,
+    }
+}
+
+/// Puts the coefficients of a CD line into a glass.
+pub fn set_coefficients(glass: &mut Glass, line: &Record<'_>, at: u32) -> Result<(), AgfFault>
+    ensures glass { OnOk result (glass.new ≡ with_coefficients (words line.now.units.now) glass.old) }
+    ensures sound { OnOk result (CD_fault at (words line.now.units.now) ≡ None) }
+    ensures fault { IfErr result (λ f. CD_fault at (words line.now.units.now) ≡ Some f) }
+{
+    let c0 = number(line, at, 1)?;
+    let c1 = number(line, at, 2)?;
+    let c2 = number(line, at, 3)?;
+    let c3 = number(line, at, 4)?;
+    let c4 = number(line, at, 5)?;
+    let c5 = number(line, at, 6)?;
+    glass.c0 = c0;
+    glass.c1 = c1;
+    glass.c2 = c2;
+    glass.c3 = c3;
+    glass.c4 = c4;
+    glass.c5 = c5;
+    Ok(())
+}
+
+/// Puts the bounds of an LD line into a glass.
+pub fn set_bounds(glass: &mut Glass, line: &Record<'_>, at: u32) -> Result<(), AgfFault>
+    ensures glass { OnOk result (glass.new ≡ with_bounds (words line.now.units.now) glass.old) }
+    ensures sound { OnOk result (LD_fault at (words line.now.units.now) ≡ None) }
+    ensures fault { IfErr result (λ f. LD_fault at (words line.now.units.now) ≡ Some f) }
+{
+    if line.word(2).is_none() {
+        return Err(AgfFault::MissingWord { line: at });
+    }
+    let low = number(line, at, 1)?;
+    let high = number(line, at, 2)?;
+    glass.low = Some(low);
+    glass.high = Some(high);
+    Ok(())
+}

@@ -1,0 +1,8 @@
+//! Glass catalogues in AGF form.
+#![tactic(auto)]
+
+mod glass;
+mod number;
+pub mod read;
+mod record;
+mod walk;

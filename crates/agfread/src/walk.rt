@@ -1,0 +1,125 @@
+//! The walk along the lines of a catalogue.
+
+ghost use Rattle.std.specs.Prelude.{◌≡◌, ◌≢◌, ◌++◌, ◌∷◌, ◌+◌, [], List, None, Some, IfOk, IfErr, OnOk};
+ghost use Rattle.lensmodel.specs.Catalogue.{Words, offence, glass_of};
+ghost use Rattle.agfread.specs.Records.{NM_fault, open_CD_fault, open_LD_fault, after_CD, after_LD};
+ghost use Rattle.lensmodel.specs.TextLines.{words};
+ghost use Rattle.agfread.specs.Walked.{closed_with};
+ghost use Rattle.agfread.specs.Readers.{IsAt};
+
+use crate::glass::{begun, set_bounds, set_coefficients};
+use crate::record::{Record, Tag};
+use glassbook::book::GlassBook;
+use lensmodel::fault::AgfFault;
+use lensmodel::glass::Glass;
+use std::alloc::Global;
+
+/// How far a catalogue was read.
+#[derive(Drop)]
+pub struct Reader {
+    /// The glasses before the open one.
+    pub book: GlassBook,
+    /// The glass whose block isn't over.
+    pub current: Option<Glass>,
+    /// How many glasses began.
+    pub seen: u32,
+}
+
+impl Reader {
+    /// Nothing was read yet.
+    pub fn new(alloc: Global) -> Reader
+        ensures { IsAt [] result }
+    {
+        Reader {
+            book: GlassBook::new(alloc),
+            current: None,
+            seen: 0,
+        }
+    }
+
+    /// Takes the line of a number.
+    pub fn take(&mut self, at: u32, line: &Record<'_>) -> Result<(), AgfFault>
+        ensures passed { OnOk result ((before : List Words) → IsAt before self.old
+            → (offence at before (words line.now.units.now) ≡ None) × IsAt (before ++ words line.now.units.now ∷ []) self.new) }
+        ensures fault { IfErr result (λ f. f ≢ AgfFault.Memory → (before : List Words) → IsAt before self.old
+            → offence at before (words line.now.units.now) ≡ Some f) }
+    {
+        match line.tag() {
+            Tag::Nm => self.begin(at, line),
+            Tag::Cd => self.coefficients(at, line),
+            Tag::Ld => self.bounds(at, line),
+            Tag::Other => Ok(()),
+        }
+    }
+
+    /// Closes the open glass, and opens that of an NM line.
+    fn begin(&mut self, at: u32, line: &Record<'_>) -> Result<(), AgfFault>
+        ensures sound { OnOk result (NM_fault at self.old.seen (words line.now.units.now) ≡ None) }
+        ensures opened { OnOk result (self.new.current ≡ Some (glass_of (words line.now.units.now) [])) }
+        ensures book { OnOk result (self.new.book ≡ closed_with self.old.current self.old.book) }
+        ensures seen { OnOk result (self.new.seen ≡ self.old.seen + 1) }
+        ensures fault { IfErr result (λ f. f ≢ AgfFault.Memory → NM_fault at self.old.seen (words line.now.units.now) ≡ Some f) }
+    {
+        let glass = begun(line, at, self.seen)?;
+        self.close()?;
+        self.current = Some(glass);
+        self.seen += 1;
+        Ok(())
+    }
+
+    /// Gives the open glass the coefficients of a CD line, where its formula uses them.
+    fn coefficients(&mut self, at: u32, line: &Record<'_>) -> Result<(), AgfFault>
+        ensures sound { OnOk result (open_CD_fault at self.old.current (words line.now.units.now) ≡ None) }
+        ensures opened { OnOk result (self.new.current ≡ after_CD (words line.now.units.now) self.old.current) }
+        ensures book { OnOk result (self.new.book ≡ self.old.book) }
+        ensures seen { OnOk result (self.new.seen ≡ self.old.seen) }
+        ensures fault { IfErr result (λ f. open_CD_fault at self.old.current (words line.now.units.now) ≡ Some f) }
+    {
+        let Some(glass) = &mut self.current else {
+            return Err(AgfFault::OrphanRecord { line: at });
+        };
+        match glass.formula {
+            1 | 2 => set_coefficients(glass, line, at),
+            _ => Ok(()),
+        }
+    }
+
+    /// Gives the open glass the bounds of an LD line.
+    fn bounds(&mut self, at: u32, line: &Record<'_>) -> Result<(), AgfFault>
+        ensures sound { OnOk result (open_LD_fault at self.old.current (words line.now.units.now) ≡ None) }
+        ensures opened { OnOk result (self.new.current ≡ after_LD (words line.now.units.now) self.old.current) }
+        ensures book { OnOk result (self.new.book ≡ self.old.book) }
+        ensures seen { OnOk result (self.new.seen ≡ self.old.seen) }
+        ensures fault { IfErr result (λ f. open_LD_fault at self.old.current (words line.now.units.now) ≡ Some f) }
+    {
+        let Some(glass) = &mut self.current else {
+            return Err(AgfFault::OrphanRecord { line: at });
+        };
+        set_bounds(glass, line, at)
+    }
+
+    /// Puts the open glass into the book.
+    fn close(&mut self) -> Result<(), AgfFault>
+        ensures book { OnOk result (self.new.book ≡ closed_with self.old.current self.old.book) }
+        ensures open { OnOk result (self.new.current ≡ None) }
+        ensures seen { self.new.seen ≡ self.old.seen }
+        ensures fault { IfErr result (λ f. f ≡ AgfFault.Memory) }
+    {
+        if let Some(glass) = self.current.take() {
+            self.book.add(glass).map_err(|_| AgfFault::Memory)?;
+        }
+        Ok(())
+    }
+
+    /// The book of all glasses.
+    pub fn finish(self) -> Result<GlassBook, AgfFault>
+        ensures book { IfOk result (λ b. b ≡ closed_with self.current self.book) }
+        ensures fault { IfErr result (λ f. f ≡ AgfFault.Memory) }
+    {
+        let mut book = self.book;
+        if let Some(glass) = self.current {
+            book.add(glass).map_err(|_| AgfFault::Memory)?;
+        }
+        Ok(book)
+    }
+}
