@@ -4,9 +4,10 @@ use Rattle.fixdec.specs.Operations.{Operations}
 use Rattle.fixdec.specs.Steps.{◌>>=◌}
 use Rattle.fixdec.specs.declared.step.Step.{Step}
 use Rattle.fixdec.specs.declared.step.Step.TheVariants.{Val}
+use Rattle.lensmodel.specs.Cells.{up_to}
 use Rattle.lensmodel.specs.CrossingRows.{Met, Foot, foot_rows, meet_standard_rows, standard_w_row, asphere_w_row, path_rows}
 use Rattle.lensmodel.specs.Preparation.{Prepared}
-use Rattle.lensmodel.specs.SlopeRounds.{meet_asphere_rows, along_row, up_to, zone2_of}
+use Rattle.lensmodel.specs.SlopeRounds.{meet_asphere_rows, along_row, zone2_of}
 use Rattle.lensmodel.specs.StartRows.{Incoming}
 use Rattle.lensmodel.specs.declared.surface.SurfaceKind.{SurfaceKind}
 use Rattle.lensmodel.specs.declared.surface.SurfaceKind.TheVariants.{Standard, EvenAsph}

@@ -1,6 +1,7 @@
 pub mod Bending
 pub mod BendingRows
 pub mod Catalogue
+pub mod Cells
 pub mod Chain
 pub mod Chains
 pub mod Claims
@@ -11,6 +12,7 @@ pub mod Dispersion
 pub mod FaultText
 pub mod HitRows
 pub mod IndexRows
+pub mod Launches
 pub mod Media
 pub mod Outcome
 pub mod Picking
