@@ -1,5 +1,5 @@
 -- The rays that a job asks for, one by one in their order.
-use Rattle.std.specs.Prelude.{ℕ, zero, suc, ℤ, pos, neg_ℤ, ◌+ℤ◌, ◌+◌, ◌*◌, List, [], ◌∷◌, ◌++◌, map}
+use Rattle.std.specs.Prelude.{ℕ, zero, suc, ℤ, pos, neg_ℤ, ◌+ℤ◌, ◌+◌, ◌*◌, List, [], ◌∷◌, ◌++◌, map, flat_map}
 use Rattle.fixdec.specs.Decimal.{Decimal}
 use Rattle.lensmodel.specs.Values.{zero_decimal}
 use Rattle.lensmodel.specs.declared.job.Ask.{Ask}
@@ -29,18 +29,13 @@ numbers_from i (suc left) = i ∷ numbers_from (i +ℤ pos 1) left
 abbrev pub parts : ℕ → List Ratio
 parts n = map (part n) (numbers_from (neg_ℤ (pos n)) (2 * n + 1))
 
--- the lists that a function gives, joined in order
-abbrev pub joined : {A B : Type 0} → (A → List B) → List A → List B
-joined f [] = []
-joined f (a ∷ more) = f a ++ joined f more
-
 -- FAN: first along y, then along x
 abbrev pub fan : (Ratio → Ratio → Launch) → ℕ → List Launch
 fan through n = map (λ py. through middle py) (parts n) ++ map (λ px. through px middle) (parts n)
 
 -- SPOT: the grid, x being the outer coordinate and y the inner one
 abbrev pub grid : (Ratio → Ratio → Launch) → ℕ → List Launch
-grid through n = joined (λ px. map (λ py. through px py) (parts n)) (parts n)
+grid through n = flat_map (λ px. map (λ py. through px py) (parts n)) (parts n)
 
 -- the rays of a line of a job; FIRST and SEIDEL ask for none
 unfoldable pub launches : Ask → List Launch
@@ -62,4 +57,4 @@ count (Seidel y u yb ub) = 0
 
 -- the rays of a whole job: those of its lines, joined in order
 abbrev pub job_launches : List Ask → List Launch
-job_launches asks = joined launches asks
+job_launches asks = flat_map launches asks

@@ -5,6 +5,7 @@ pub mod Cells
 pub mod Chain
 pub mod Chains
 pub mod Claims
+pub mod Comparison
 pub mod Constants
 pub mod Crossing
 pub mod CrossingRows
@@ -18,6 +19,7 @@ pub mod Outcome
 pub mod Picking
 pub mod Preparation
 pub mod Printed
+pub mod Ranges
 pub mod Residual
 pub mod SagRows
 pub mod SlopeRounds
@@ -26,3 +28,6 @@ pub mod StartRows
 pub mod TextLines
 pub mod TopCall
 pub mod Values
+pub mod WellFormed
+pub mod WholeFaults
+pub mod Zones

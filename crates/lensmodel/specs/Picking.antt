@@ -1,26 +1,19 @@
 -- The glass of a name in a book, and its index at a wavelength, as the command index judges and prints it.
-use Rattle.std.specs.Prelude.{ℕ, ℤ, pos, ◌*ℤ◌, Bool, true, false, ◌&&◌, int_le, int_lt, not, List, Option, Some, None, Result, Ok, Err, if◌then◌else◌}
-use Rattle.fixdec.specs.Decimal.{Decimal, value}
+use Rattle.std.specs.Prelude.{ℕ, ℤ, pos, Bool, true, false, ◌&&◌, int_le, not, List, Option, Some, None, Result, Ok, Err, if◌then◌else◌}
+use Rattle.fixdec.specs.Decimal.{Decimal}
 use Rattle.fixdec.specs.Ends.{Ends}
-use Rattle.fixdec.specs.Frac.{Frac, den}
 use Rattle.fixdec.specs.IntervalOperations.{operations}
 use Rattle.fixdec.specs.Scaled.{dec_span}
 use Rattle.fixdec.specs.Steps.{◌>>=◌}
 use Rattle.fixdec.specs.declared.step.Step.{Step}
 use Rattle.fixdec.specs.declared.step.Step.TheVariants.{Val, Empty, Lost}
 use Rattle.lensmodel.specs.Catalogue.{find_glass, is_used}
+use Rattle.lensmodel.specs.Comparison.{is_below_decimal}
 use Rattle.lensmodel.specs.IndexRows.{index_rows}
 use Rattle.lensmodel.specs.declared.fault.CrossFault.{CrossFault}
 use Rattle.lensmodel.specs.declared.fault.CrossFault.TheVariants.{NoGlass, Formula, WaveRange, BadIndex}
 use Rattle.lensmodel.specs.declared.glass.Glass.{Glass}
 use Rattle.lensmodel.specs.declared.glass.Medium.TheVariants.{Of}
-
--- whether a fraction is below another
-abbrev pub is_below : Frac → Frac → Bool
-is_below x y = int_lt (x.num *ℤ den y) (y.num *ℤ den x)
-
-abbrev pub is_below_decimal : Decimal → Decimal → Bool
-is_below_decimal a b = is_below (value a) (value b)
 
 -- whether a wavelength is below a least, or above a greatest, where one is given
 abbrev pub is_under : Decimal → Option Decimal → Bool
