@@ -23,6 +23,8 @@ pub mod Ranges
 pub mod Residual
 pub mod SagRows
 pub mod SlopeRounds
+pub mod SpotClaims
+pub mod SpotRows
 pub mod Start
 pub mod StartRows
 pub mod TextLines
