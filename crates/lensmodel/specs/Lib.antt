@@ -11,11 +11,14 @@ pub mod Crossing
 pub mod CrossingRows
 pub mod Dispersion
 pub mod FaultText
+pub mod FirstOrderRows
 pub mod HitRows
 pub mod IndexRows
 pub mod Launches
+pub mod Losses
 pub mod Media
 pub mod Outcome
+pub mod ParaxialRows
 pub mod Picking
 pub mod Preparation
 pub mod Printed
