@@ -25,6 +25,7 @@ pub mod Printed
 pub mod Ranges
 pub mod Residual
 pub mod SagRows
+pub mod SeidelRows
 pub mod SlopeRounds
 pub mod SpotClaims
 pub mod SpotRows
