@@ -11,6 +11,7 @@ pub mod Crossing
 pub mod CrossingRows
 pub mod Dispersion
 pub mod FaultText
+pub mod FirstOrder
 pub mod FirstOrderRows
 pub mod HitRows
 pub mod IndexRows
@@ -18,6 +19,7 @@ pub mod Launches
 pub mod Losses
 pub mod Media
 pub mod Outcome
+pub mod Paraxial
 pub mod ParaxialRows
 pub mod Picking
 pub mod Preparation
@@ -25,6 +27,7 @@ pub mod Printed
 pub mod Ranges
 pub mod Residual
 pub mod SagRows
+pub mod Seidel
 pub mod SeidelRows
 pub mod SlopeRounds
 pub mod SpotClaims

@@ -1,18 +1,16 @@
 -- The rows of a paraxial ray at a surface. The indices carry the sign of travel.
 use Rattle.std.specs.Prelude.{ℕ, suc, ℤ, pos, negsuc}
-use Rattle.fixdec.specs.Decimal.{Decimal}
 use Rattle.fixdec.specs.Operations.{Operations}
 use Rattle.fixdec.specs.Steps.{◌>>=◌}
 use Rattle.fixdec.specs.declared.step.Step.{Step}
 use Rattle.fixdec.specs.declared.step.Step.TheVariants.{Val}
 use Rattle.lensmodel.specs.Constants.{decimal_row, whole_row}
 use Rattle.lensmodel.specs.Media.{medium_at}
+use Rattle.lensmodel.specs.Paraxial.{even_coefficient}
 use Rattle.lensmodel.specs.Preparation.{medium_row, thickness_of}
-use Rattle.lensmodel.specs.Values.{zero_decimal, surface_at, travel}
+use Rattle.lensmodel.specs.Values.{surface_at, travel}
 use Rattle.lensmodel.specs.declared.setup.Setup.{Setup}
 use Rattle.lensmodel.specs.declared.surface.Surface.{Surface}
-use Rattle.lensmodel.specs.declared.surface.SurfaceKind.{SurfaceKind}
-use Rattle.lensmodel.specs.declared.surface.SurfaceKind.TheVariants.{Standard, EvenAsph}
 
 -- a ray at a surface: the curvature at the vertex, the signed indices before and behind, the slope behind, and the height at
 -- the next surface
@@ -22,11 +20,6 @@ pub record Parax (A : Type 0) : Type 0 where
   pub n2 : Step A
   pub u : Step A
   pub next : Step A
-
--- a coefficient of an even asphere; 0 of a standard surface
-abbrev pub even_coefficient : SurfaceKind → Decimal → Decimal
-even_coefficient Standard a = zero_decimal
-even_coefficient EvenAsph a = a
 
 module _ {A : Type 0} (o : Operations A) (scale : ℕ) where
   -- cv = c + (a1 + a1)

@@ -8,7 +8,7 @@ use Rattle.fixdec.specs.declared.step.Step.{Step}
 use Rattle.lensmodel.specs.Constants.{decimal_row, whole_row, residual_units}
 use Rattle.lensmodel.specs.FirstOrderRows.{Passing, nothing, ray_row, ray_rows, rows_of}
 use Rattle.lensmodel.specs.Losses.{Worked, to_step, hull_step, row, some_by_range, Attempt, chosen}
-use Rattle.lensmodel.specs.ParaxialRows.{even_coefficient}
+use Rattle.lensmodel.specs.Paraxial.{even_coefficient}
 use Rattle.lensmodel.specs.Values.{surface_at, image}
 use Rattle.lensmodel.specs.declared.paraxial.Five.{Five}
 use Rattle.lensmodel.specs.declared.paraxial.SeidelOut.{SeidelOut}
