@@ -1,3 +1,5 @@
 mod Examples
 mod FirstOrderExamples
 mod LaunchRows
+mod PrescriptionExamples
+mod SpotExamples
