@@ -26,6 +26,7 @@ pub mod Preparation
 pub mod Printed
 pub mod Ranges
 pub mod Residual
+pub mod Rows
 pub mod SagRows
 pub mod Seidel
 pub mod SeidelRows
