@@ -15,6 +15,7 @@ pub mod FirstOrder
 pub mod FirstOrderRows
 pub mod HitRows
 pub mod IndexRows
+pub mod LaunchLaws
 pub mod Launches
 pub mod Losses
 pub mod Media
