@@ -2,4 +2,5 @@ mod Examples
 mod FirstOrderExamples
 mod LaunchRows
 mod PrescriptionExamples
+mod SetupExamples
 mod SpotExamples
