@@ -1,6 +1,6 @@
 -- Small lenses on which the definitions are worked out.
 use Rattle.std.proofs.Common.{List, [], ◌∷◌}
-use Rattle.std.specs.Prelude.{ℕ, ℤ, pos, negsuc, true, codes, Option, Some, None}
+use Rattle.std.specs.Prelude.{ℤ, pos, negsuc, true, codes, Some, None}
 use Rattle.fixdec.specs.Decimal.{Decimal}
 use Rattle.fixdec.specs.Ends.{Ends}
 use Rattle.lensmodel.specs.Values.{plane, zero_decimal}

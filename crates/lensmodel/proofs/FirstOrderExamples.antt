@@ -25,9 +25,11 @@ plane_in_air : first_order plane_lens (whole_dec (pos 1)) zero_decimal ≡ recor
   front = Lost Zero;
   back = Lost Zero;
   enp = Val (interval (negsuc 999) (pos 1000));
-  trail = record { items =
-    (Val (interval (pos 1000000000000000) (pos 1000000000000000)), Val (interval (negsuc 999) (pos 1000)))
-    ∷ (Val (interval (pos 999999999995000) (pos 1000000000005000)), Val (interval (negsuc 999) (pos 1000))) ∷ [] };
+  trail = record {
+    items =
+        (Val (interval (pos 1000000000000000) (pos 1000000000000000)), Val (interval (negsuc 999) (pos 1000)))
+        ∷ (Val (interval (pos 999999999995000) (pos 1000000000005000)), Val (interval (negsuc 999) (pos 1000))) ∷ [];
+  };
 }
 unfolding first_order first_attempt ray_rows operations ends iv_plus iv_minus iv_times iv_square iv_over iv_root iv_widen dec_floor dec_ceil dec_span index_rows
 plane_in_air = refl
@@ -59,9 +61,11 @@ glass_behind_a_sphere : (first_attempt rooted 15 sphere_lens (pos 1000) (whole_d
   front = Val (interval (negsuc 915914) (pos 915925));
   back = Val (interval (negsuc 1315500) (pos 1315501));
   enp = Val (interval (negsuc 999) (pos 1000));
-  trail = record { items =
-    (Val (interval (pos 1000000000000000) (pos 1000000000000000)), Val (interval (negsuc 33333333334030) (negsuc 33333333332635)))
-    ∷ (Val (interval (pos 666666666658690) (pos 666666666674640)), Val (interval (negsuc 33333333334030) (negsuc 33333333332635))) ∷ [] };
+  trail = record {
+    items =
+        (Val (interval (pos 1000000000000000) (pos 1000000000000000)), Val (interval (negsuc 33333333334030) (negsuc 33333333332635)))
+        ∷ (Val (interval (pos 666666666658690) (pos 666666666674640)), Val (interval (negsuc 33333333334030) (negsuc 33333333332635))) ∷ [];
+  };
 }
 unfolding first_order first_attempt ray_rows operations ends iv_plus iv_minus iv_times iv_square iv_over iv_root iv_widen dec_floor dec_ceil dec_span index_rows
 glass_behind_a_sphere = refl
@@ -75,9 +79,11 @@ in_front_of_a_mirror : first_order mirror_lens (whole_dec (pos 1)) zero_decimal 
   front = Val (interval (negsuc 65000) (pos 65001));
   back = Val (interval (negsuc 60000) (pos 60001));
   enp = Val (interval (negsuc 999) (pos 1000));
-  trail = record { items =
-    (Val (interval (pos 1000000000000000) (pos 1000000000000000)), Val (interval (pos 199999999999000) (pos 200000000001000)))
-    ∷ (Val (interval (negsuc 5999) (pos 6000)), Val (interval (pos 199999999999000) (pos 200000000001000))) ∷ [] };
+  trail = record {
+    items =
+        (Val (interval (pos 1000000000000000) (pos 1000000000000000)), Val (interval (pos 199999999999000) (pos 200000000001000)))
+        ∷ (Val (interval (negsuc 5999) (pos 6000)), Val (interval (pos 199999999999000) (pos 200000000001000))) ∷ [];
+  };
 }
 unfolding first_order first_attempt ray_rows operations ends iv_plus iv_minus iv_times iv_square iv_over iv_root iv_widen dec_floor dec_ceil dec_span index_rows
 in_front_of_a_mirror = refl

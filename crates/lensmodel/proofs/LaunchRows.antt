@@ -1,10 +1,9 @@
 -- The launches of worked examples.
-use Rattle.std.proofs.Common.{◌≡◌, refl, ◌∷◌, [], List}
-use Rattle.std.specs.Prelude.{ℤ, pos, negsuc}
+use Rattle.std.proofs.Common.{◌≡◌, refl, ◌∷◌, []}
+use Rattle.std.specs.Prelude.{pos, negsuc}
 use Rattle.fixdec.specs.Decimal.{Decimal}
 use Rattle.lensmodel.specs.Launches.{launches, job_launches, part, middle}
 use Rattle.lensmodel.specs.Values.{zero_decimal}
-use Rattle.lensmodel.specs.declared.job.Ask.{Ask}
 use Rattle.lensmodel.specs.declared.job.Ask.TheVariants.{Fan, Spot, First}
 use Rattle.lensmodel.specs.declared.launch.Launch.{Launch}
 use Rattle.lensmodel.specs.declared.launch.Launch.TheVariants.{Pupil}

@@ -1,13 +1,13 @@
 -- Prescriptions and setups on which zones, whole faults, media and signs are worked out.
 use Rattle.std.proofs.Common.{◌≡◌, refl, ℕ, List, [], ◌∷◌}
-use Rattle.std.specs.Prelude.{ℤ, pos, negsuc, Bool, true, false, codes, map, Option, Some, None}
+use Rattle.std.specs.Prelude.{pos, negsuc, true, false, codes, map, Some, None}
 use Rattle.fixdec.specs.Decimal.{Decimal}
 use Rattle.fixdec.specs.Frac.{whole, ◌*Q◌}
 use Rattle.fixdec.specs.Scaled.{dec_ceil, dec_shifted}
 use Rattle.fixdec.specs.Zone.{zone, zone_span, least_power, norm}
-use Rattle.lensmodel.proofs.Examples.{dec, whole_dec, tenths, interval, flat, object, curved, mirror, asphere, plane_lens, sphere_lens, mirror_lens, setup}
+use Rattle.lensmodel.proofs.Examples.{dec, whole_dec, tenths, interval, flat, object, curved, mirror, asphere, plane_lens, setup}
 use Rattle.lensmodel.specs.Media.{equal_media, same_name}
-use Rattle.lensmodel.specs.Values.{plane, zero_decimal, owner, travel, reflects}
+use Rattle.lensmodel.specs.Values.{plane, zero_decimal, owner, travel}
 use Rattle.lensmodel.specs.WholeFaults.{whole_fault}
 use Rattle.lensmodel.specs.Zones.{surface_zone, surface_norm, scaled_coefficient}
 use Rattle.lensmodel.specs.declared.fault.ZmxFault.TheVariants.{TooFewSurfaces, StopCount, MirrorAtObject, InnerInfinity, NoZone, Coefficient}

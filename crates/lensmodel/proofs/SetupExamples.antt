@@ -1,9 +1,9 @@
 -- A setup that is well formed, indices that aren't in their range, and rims that are cleared.
-use Rattle.std.proofs.Common.{◌≡◌, refl, ℕ, zero, suc, List, [], ◌∷◌, arith}
+use Rattle.std.proofs.Common.{◌≡◌, refl, ℕ, zero, suc, [], ◌∷◌, arith}
 use Rattle.std.proofs.lemmas.Int.{ints}
 use Rattle.std.specs.Prelude.{◌<◌, ℤ, pos, negsuc, true, false, map, slice_index_or, Some, IsTrue, All}
-use Rattle.fixdec.specs.Decimal.{Decimal, value}
-use Rattle.fixdec.specs.Frac.{Frac, ◌≤Q◌, ◌+Q◌, ◌*Q◌, whole}
+use Rattle.fixdec.specs.Decimal.{Decimal}
+use Rattle.fixdec.specs.Frac.{◌*Q◌, whole}
 use Rattle.fixdec.specs.Interval.{ends, iv_widen}
 use Rattle.fixdec.specs.IntervalOperations.{operations}
 use Rattle.fixdec.specs.Scaled.{dec_floor, dec_ceil, dec_span}
@@ -15,7 +15,7 @@ use Rattle.lensmodel.specs.Picking.{is_good_index}
 use Rattle.lensmodel.specs.Preparation.{index_row}
 use Rattle.lensmodel.specs.Ranges.{is_width, is_residual, is_fan, is_grid, has_place}
 use Rattle.lensmodel.specs.Values.{zero_decimal, reflects}
-use Rattle.lensmodel.specs.WellFormed.{IsWritten, IsWrittenSurface, IsWrittenLens, IsSound, IsBox, HasMedia, HasBox, HasGoodIndex, IsWellFormed}
+use Rattle.lensmodel.specs.WellFormed.{IsWritten, IsWrittenSurface, IsSound, HasMedia, HasBox, HasGoodIndex, IsWellFormed}
 use Rattle.lensmodel.specs.WholeFaults.{whole_fault}
 use Rattle.lensmodel.specs.declared.glass.Medium.TheVariants.{Air}
 use Rattle.lensmodel.specs.declared.setup.Setup.{Setup}

@@ -1,13 +1,12 @@
 -- Statistics of small spots.
 use Rattle.std.proofs.Common.{◌≡◌, refl, ℕ, List, [], ◌∷◌}
-use Rattle.std.specs.Prelude.{ℤ, pos, negsuc, None}
+use Rattle.std.specs.Prelude.{pos, negsuc, None}
 use Rattle.fixdec.specs.Ends.{Ends}
 use Rattle.fixdec.specs.Interval.{ends, iv_plus, iv_minus, iv_square, iv_clip}
 use Rattle.fixdec.specs.declared.step.Step.TheVariants.{Val, Lost}
 use Rattle.fixdec.specs.declared.step.Why.TheVariants.{Range}
 use Rattle.lensmodel.proofs.Examples.{interval}
 use Rattle.lensmodel.specs.SpotRows.{Landing, centroid_rows, spread_rows, centroid, mean_square}
-use Rattle.lensmodel.specs.declared.row.Place.{Place}
 use Rattle.lensmodel.specs.declared.row.Row.{Row}
 use Rattle.lensmodel.specs.declared.row.Word.{Word}
 use Rattle.lensmodel.specs.declared.row.Word.TheVariants.{Passes, Wide}

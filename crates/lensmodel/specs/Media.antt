@@ -38,3 +38,7 @@ abbrev pub equal_media : Setup → ℕ → Bool
 equal_media s j =
     not (reflects s (suc j)) && same_medium (medium_at s j) (medium_at s (suc j))
     && not (has_tolerance (tolerances s.toler) Indx (owner s j)) && not (has_tolerance (tolerances s.toler) Indx (suc j))
+
+-- the same by the number of the surface itself, which is from 1 to the one before the image
+abbrev pub is_between_equal_media : Setup → ℕ → Bool
+is_between_equal_media s j = equal_media s (j - 1)

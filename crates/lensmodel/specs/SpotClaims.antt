@@ -86,8 +86,8 @@ AreChosen s rays chains = AllZip (λ t c. IsWhole s t.ray c) (filter (λ t. pass
 abbrev pub SpotHolds : Setup → List Traced → Type 0
 SpotHolds s rays = (chains : List Chain) → AreChosen s rays chains → (chains ≡ [] → ⊥)
     → let points = map (image_point s) chains in
-      OnVal (centroid (map (λ t. t.row) rays)) (λ c. IsMember 12 c.0 (mean_x points) × IsMember 12 c.1 (mean_y points))
-      × OnVal (mean_square (map (λ t. t.row) rays)) (λ r. IsMember 12 r (spread points))
+    OnVal (centroid (map (λ t. t.row) rays)) (λ c. IsMember 12 c.0 (mean_x points) × IsMember 12 c.1 (mean_y points))
+    × OnVal (mean_square (map (λ t. t.row) rays)) (λ r. IsMember 12 r (spread points))
 
 -- the claim for all rays that were traced
 abbrev pub SpotsEnclose : Type 0

@@ -1,5 +1,5 @@
 -- Well-formed setups: what the trace of a ray takes for granted.
-use Rattle.std.specs.Prelude.{ℕ, ◌≡◌, ◌<◌, ◌≤◌, ℤ, neg_ℤ, pos, ◌≤ℤ◌, true, not, List, length, slice_index_or, All, AllPairs, IsTrue, Option, Some, None}
+use Rattle.std.specs.Prelude.{ℕ, ◌≡◌, ◌<◌, ◌≤◌, neg_ℤ, pos, ◌≤ℤ◌, not, List, length, slice_index_or, All, AllPairs, IsTrue, Option, Some, None}
 use Rattle.fixdec.specs.Decimal.{Decimal}
 use Rattle.fixdec.specs.IntervalOperations.{operations}
 use Rattle.lensmodel.specs.Constants.{residual_units}
@@ -10,7 +10,6 @@ use Rattle.lensmodel.specs.Preparation.{index_row}
 use Rattle.lensmodel.specs.Ranges.{is_positive, is_not_negative, is_wave, is_residual, is_width, is_ask, has_place}
 use Rattle.lensmodel.specs.Values.{image, reflects, stands_on, tolerances}
 use Rattle.lensmodel.specs.WholeFaults.{whole_fault}
-use Rattle.lensmodel.specs.declared.glass.Medium.{Medium}
 use Rattle.lensmodel.specs.declared.glass.Medium.TheVariants.{Air}
 use Rattle.lensmodel.specs.declared.job.Job.{Job}
 use Rattle.lensmodel.specs.declared.prescription.Prescription.{Prescription}

@@ -1,7 +1,6 @@
 -- What is wrong with a prescription as a whole.
-use Rattle.std.specs.Prelude.{ℕ, suc, ◌-◌, pos, Bool, true, false, ◌&&◌, nat_eq, nat_lt, not, List, [], ◌∷◌, ◌++◌, length, drop, map, slice_index_or, Option, Some, None, is_none, if◌then◌else◌}
+use Rattle.std.specs.Prelude.{ℕ, suc, ◌-◌, pos, Bool, ◌&&◌, nat_eq, nat_lt, not, List, [], ◌∷◌, ◌++◌, length, drop, map, slice_index_or, Option, Some, None, is_none, if◌then◌else◌}
 use Rattle.fixdec.specs.Decimal.{Decimal, value}
-use Rattle.fixdec.specs.Ends.{Ends}
 use Rattle.fixdec.specs.Frac.{whole}
 use Rattle.lensmodel.specs.Comparison.{is_below, size}
 use Rattle.lensmodel.specs.Values.{plane}
