@@ -10,12 +10,14 @@ pub mod CrossingRows
 pub mod Dispersion
 pub mod FaultText
 pub mod HitRows
+pub mod IndexMeaning
 pub mod IndexRows
 pub mod Media
 pub mod Outcome
 pub mod Picking
 pub mod Preparation
 pub mod Printed
+pub mod Records
 pub mod Residual
 pub mod SagRows
 pub mod SlopeRounds
