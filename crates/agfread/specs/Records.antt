@@ -1,7 +1,8 @@
 -- What one record of a catalogue says, word by word. A line is its list of words.
 use Rattle.std.specs.Prelude.{ℕ, zero, suc, Bool, true, false, [], ◌∷◌, nat_le, nat_lt, length, take, drop, Option, Some, None, if◌then◌else◌}
 use Rattle.fixdec.specs.Reading.{decimal_of}
-use Rattle.lensmodel.specs.Catalogue.{Words, word_at, or_first, fault_if, bad_unless, no_formula, formula_of, is_used, coefficient_in, bound_in, first_bad}
+use Rattle.lensmodel.specs.Catalogue.{fault_if, bad_unless, no_formula, formula_of, is_used, coefficient_in, bound_in, first_bad}
+use Rattle.lensmodel.specs.Records.{Words, word_at, or_first}
 use Rattle.lensmodel.specs.declared.fault.AgfFault.{AgfFault}
 use Rattle.lensmodel.specs.declared.fault.AgfFault.TheVariants.{BadNumber, LongName, MissingWord, OrphanRecord, TooManyGlasses}
 use Rattle.lensmodel.specs.declared.glass.Glass.{Glass}

@@ -2,7 +2,8 @@
 
 ghost use Rattle.std.specs.Prelude.{◌≡◌, ◌<◌, Some, None, MatchOption, IfOk, IfErr};
 ghost use Rattle.fixdec.specs.Reading.{decimal_of};
-ghost use Rattle.lensmodel.specs.Catalogue.{formula_of, small_number, whole_at, word_at, decimal_or_0};
+ghost use Rattle.lensmodel.specs.Catalogue.{formula_of, small_number};
+ghost use Rattle.lensmodel.specs.Records.{whole_at, word_at, decimal_or_0};
 ghost use Rattle.lensmodel.specs.TextLines.{words};
 ghost use Rattle.agfread.specs.Records.{word_fault};
 

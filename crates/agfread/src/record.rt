@@ -2,7 +2,7 @@
 
 ghost use Rattle.std.specs.Prelude.{◌≡◌, ◌<◌, ◌≤◌, false, true, length, take, map, slice_range, MatchOption};
 ghost use Rattle.std.specs.List.{All};
-ghost use Rattle.lensmodel.specs.Catalogue.{word_at};
+ghost use Rattle.lensmodel.specs.Records.{word_at};
 ghost use Rattle.lensmodel.specs.TextLines.{words};
 ghost use Rattle.agfread.specs.Records.{has_word};
 ghost use Rattle.agfread.specs.Tags.{tag_of, tag_of_word};

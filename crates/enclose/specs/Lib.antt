@@ -1,3 +1,3 @@
 pub mod EndLaws
 pub mod IntervalLaws
-pub mod IvOperations
+pub mod IvLaws

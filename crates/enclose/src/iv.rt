@@ -1,13 +1,16 @@
 //! Intervals.
+#![tactic(auto, unfolding(fixdec::specs::IntervalOperations::operations))]
 
 ghost use Rattle.std.specs.Prelude.{◌≡◌, ℕ, ℤ, pos, negsuc, ◌≤◌, ◌<◌, ◌≤ℤ◌, ◌+ℤ◌};
 ghost use Rattle.fixdec.specs.Ends.{Ends, InCap};
-ghost use Rattle.enclose.specs.IvOperations.{iv_operations, iv_member, iv_lawful, on_span};
+ghost use Rattle.fixdec.specs.IntervalOperations.{operations};
+ghost use Rattle.enclose.specs.IvLaws.{iv_member, iv_lawful};
 
 use crate::arith::Arith;
 use crate::spans;
 use fixdec::span::Span;
 use fixdec::step::Step;
+use std::marker::Model;
 
 /// An interval at the scale `S`. Its members are the numbers between its two ends.
 #[derive(Clone, Copy, Debug, PartialEq, Eq)]
@@ -15,8 +18,17 @@ pub struct Iv<const S: u32> {
     span: Span,
 }
 
+impl<const S: u32> Model for Iv<S> {
+    ghost Value = { Ends };
+
+    ghost view = { λ a. a.span };
+
+    ghost inverse = { λ e. record { span = e } };
+}
+
+/// The step of a span as one of an interval.
 fn of_step<const S: u32>(r: Step<Span>) -> Step<Iv<S>>
-    ensures { result ≡ on_span r }
+    ensures { result ≡ r }
 {
     match r {
         Step::Val(span) => Step::Val(Iv { span }),
@@ -30,7 +42,7 @@ impl<const S: u32> Arith for Iv<S> {
 
     ghost SCALE = { S };
 
-    ghost ops = { iv_operations S };
+    ghost ops = { operations S };
 
     ghost member = { iv_member S };
 

@@ -1,28 +1,15 @@
 -- A glass catalogue: which lines offend, and the book of glasses that the lines make. A line is its list of words.
-use Rattle.std.specs.Prelude.{ℕ, zero, suc, ℤ, pos, negsuc, ◌*ℤ◌, ◌^◌, Bool, true, false, ◌&&◌, ◌||◌, nat_eq, nat_le, nat_lt, List, [], ◌∷◌, ◌++◌, length, take, drop, codes, slice_get, Option, Some, None, Result, Ok, Err, if◌then◌else◌}
-use lib.Pointwise.{pointwise}
+use Rattle.std.specs.Prelude.{ℕ, suc, ℤ, pos, negsuc, Bool, true, false, ◌||◌, nat_eq, nat_le, nat_lt, List, [], ◌∷◌, ◌++◌, length, take, drop, codes, Option, Some, None, Result, Ok, Err, if◌then◌else◌}
 use Rattle.fixdec.specs.Decimal.{Decimal}
 use Rattle.fixdec.specs.Reading.{decimal_of}
 use Rattle.lensmodel.specs.Media.{same_name}
-use Rattle.lensmodel.specs.TextLines.{text, words}
+use Rattle.lensmodel.specs.Records.{Words, has_tag, word_at, or_first, last_where, count_where, whole_decimal, decimal_or_0, each_words}
+use Rattle.lensmodel.specs.TextLines.{text}
 use Rattle.lensmodel.specs.Values.{zero_decimal}
 use Rattle.lensmodel.specs.declared.fault.AgfFault.{AgfFault}
 use Rattle.lensmodel.specs.declared.fault.AgfFault.TheVariants.{Text, OrphanRecord, MissingWord, BadNumber, LongName, TooManyGlasses}
 use Rattle.lensmodel.specs.declared.fault.TextFault.{TextFault}
 use Rattle.lensmodel.specs.declared.glass.Glass.{Glass}
-
--- the words of a line
-abbrev pub Words : Type 0
-Words = List (List ℕ)
-
--- whether two words are the same
-abbrev pub same_word : List ℕ → List ℕ → Bool
-same_word a b = pointwise nat_eq a b
-
--- whether a line begins with a tag
-abbrev pub has_tag : List ℕ → Words → Bool
-has_tag tag [] = false
-has_tag tag (w ∷ more) = same_word w tag
 
 abbrev pub is_NM : Words → Bool
 is_NM line = has_tag (codes "NM") line
@@ -33,40 +20,11 @@ is_CD line = has_tag (codes "CD") line
 abbrev pub is_LD : Words → Bool
 is_LD line = has_tag (codes "LD") line
 
--- the word of a number, counted from 0, or no unit at all where the line has fewer
-abbrev pub word_at : ℕ → Words → List ℕ
-word_at n [] = []
-word_at zero (w ∷ more) = w
-word_at (suc n) (w ∷ more) = word_at n more
-
-abbrev pub or_first : {A : Type 0} → Option A → Option A → Option A
-or_first (Some a) b = Some a
-or_first None b = b
-
--- the last line that passes a test
-abbrev pub last_where : (Words → Bool) → List Words → Option Words
-last_where is [] = None
-last_where is (l ∷ more) = or_first (last_where is more) (if is l then Some l else None)
-
--- how many lines pass a test
-abbrev pub count_where : (Words → Bool) → List Words → ℕ
-count_where is [] = 0
-count_where is (l ∷ more) = if is l then suc (count_where is more) else count_where is more
-
--- a decimal whose value is whole
-abbrev pub whole_at : ℤ → ℤ → Option ℤ
-whole_at mant (pos k) = Some (mant *ℤ pos (10 ^ k))
-whole_at mant (negsuc k) = None
-
 -- a whole number from 0 to 99
 abbrev pub small_number : Option ℤ → Option ℕ
 small_number (Some (pos n)) = if nat_le n 99 then Some n else None
 small_number (Some (negsuc n)) = None
 small_number None = None
-
-abbrev pub whole_decimal : Option Decimal → Option ℤ
-whole_decimal None = None
-whole_decimal (Some d) = whole_at d.mant d.exp
 
 -- the formula number of a word: a decimal whose value is a whole number from 0 to 99
 abbrev pub formula_of : List ℕ → Option ℕ
@@ -139,10 +97,6 @@ abbrev pub block : List Words → List Words
 block [] = []
 block (l ∷ more) = if is_NM l then [] else l ∷ block more
 
-abbrev pub decimal_or_0 : Option Decimal → Decimal
-decimal_or_0 (Some d) = d
-decimal_or_0 None = zero_decimal
-
 -- the coefficient of a number, counted from 1, of the last CD line; a missing one is 0
 abbrev pub coefficient_in : Bool → Option Words → ℕ → Decimal
 coefficient_in true (Some cd) k = decimal_or_0 (decimal_of (word_at k cd))
@@ -191,10 +145,6 @@ without_name name (g ∷ more) = if same_name name g.name.items then without_nam
 abbrev pub book : List Glass → List Glass
 book [] = []
 book (g ∷ more) = g ∷ without_name g.name.items (book more)
-
-abbrev pub each_words : List (List ℕ) → List Words
-each_words [] = []
-each_words (l ∷ more) = words l ∷ each_words more
 
 abbrev pub glasses_unless : Option AgfFault → List Words → Result (List Glass) AgfFault
 glasses_unless (Some fault) lines = Err fault

@@ -14,6 +14,7 @@ pub mod FaultText
 pub mod FirstOrder
 pub mod FirstOrderRows
 pub mod HitRows
+pub mod IndexMeaning
 pub mod IndexRows
 pub mod LaunchLaws
 pub mod Launches
@@ -26,6 +27,7 @@ pub mod Picking
 pub mod Preparation
 pub mod Printed
 pub mod Ranges
+pub mod Records
 pub mod Residual
 pub mod Rows
 pub mod SagRows

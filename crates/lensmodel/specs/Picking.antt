@@ -13,6 +13,7 @@ use Rattle.lensmodel.specs.IndexRows.{index_rows}
 use Rattle.lensmodel.specs.declared.fault.CrossFault.{CrossFault}
 use Rattle.lensmodel.specs.declared.fault.CrossFault.TheVariants.{NoGlass, Formula, WaveRange, BadIndex}
 use Rattle.lensmodel.specs.declared.glass.Glass.{Glass}
+use Rattle.lensmodel.specs.declared.glass.Medium.{Medium}
 use Rattle.lensmodel.specs.declared.glass.Medium.TheVariants.{Of}
 
 -- whether a wavelength is below a least, or above a greatest, where one is given
@@ -47,6 +48,11 @@ abbrev pub usable_if_found : Option Glass → Decimal → Result Glass CrossFaul
 usable_if_found None wave = Err (NoGlass 0)
 usable_if_found (Some g) wave = usable g wave
 
--- the glass of a name, compared after ASCII upper-casing
+-- the glass of a name, compared after ASCII upper-casing, where it can be used at the wavelength
 unfoldable pub picked : List Glass → List ℕ → Decimal → Result Glass CrossFault
 picked book name wave = usable_if_found (find_glass name book) wave
+
+-- the medium of a glass
+abbrev pub medium_of : Result Glass CrossFault → Result Medium CrossFault
+medium_of (Ok g) = Ok (Of g)
+medium_of (Err fault) = Err fault

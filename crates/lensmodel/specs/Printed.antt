@@ -1,5 +1,5 @@
 -- How names, numbers and intervals are printed, byte by byte.
-use Rattle.std.specs.Prelude.{ℕ, Bool, ◌&&◌, nat_le, List, [], ◌∷◌, ◌++◌, codes, map, Option, Some, None, if◌then◌else◌}
+use Rattle.std.specs.Prelude.{ℕ, Bool, ◌&&◌, nat_le, List, [], ◌∷◌, ◌++◌, codes, length, map, Option, Some, None, if◌then◌else◌}
 use Rattle.std.specs.Fmt.{decimal}
 use Rattle.fixdec.specs.Decimal.{Decimal}
 use Rattle.fixdec.specs.DecimalText.{fix_text, dec_text}
@@ -50,3 +50,10 @@ glass_coefficients g = codes " coef" ++ spaced g.c0 ++ spaced g.c1 ++ spaced g.c
 
 abbrev pub glass_line : Glass → List ℕ
 glass_line g = glass_head g ++ glass_range g ++ glass_coefficients g ++ newline
+
+abbrev pub glass_lines : List Glass → List ℕ
+glass_lines [] = []
+glass_lines (g ∷ more) = glass_line g ++ glass_lines more
+
+abbrev pub book_text : List Glass → List ℕ
+book_text book = glasses_line (length book) ++ glass_lines book

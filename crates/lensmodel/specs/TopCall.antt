@@ -5,10 +5,11 @@ use Rattle.fixdec.specs.Ends.{Ends}
 use Rattle.fixdec.specs.Reading.{decimal_of}
 use Rattle.fixdec.specs.declared.step.Step.{Step}
 use Rattle.fixdec.specs.declared.step.Step.TheVariants.{Val, Empty, Lost}
-use Rattle.lensmodel.specs.Catalogue.{same_word, catalogue}
+use Rattle.lensmodel.specs.Catalogue.{catalogue}
+use Rattle.lensmodel.specs.Records.{same_word}
 use Rattle.lensmodel.specs.FaultText.{usage_line, absent_line, too_long_line, refused_line, crossed_line, agf_cause}
 use Rattle.lensmodel.specs.Picking.{picked, index_at_12}
-use Rattle.lensmodel.specs.Printed.{index_line}
+use Rattle.lensmodel.specs.Printed.{index_line, book_text}
 use Rattle.lensmodel.specs.declared.fault.AgfFault.{AgfFault}
 use Rattle.lensmodel.specs.declared.fault.CrossFault.{CrossFault}
 use Rattle.lensmodel.specs.declared.glass.Glass.{Glass}
@@ -32,7 +33,9 @@ answer status text = record { status = status; text = text }
 -- what the words of a call ask for
 pub data Command : Type 0 where
   -- index AGF GLASS WAVE
-  index : (agf glass : List ℕ) → (wave : Decimal) → Command
+  index : (agf name : List ℕ) → (wave : Decimal) → Command
+  -- glass AGF
+  glass : (agf : List ℕ) → Command
 
 -- a decimal above 0 of at most 64 bytes
 abbrev pub positive_if : Option Decimal → Option Decimal
@@ -44,13 +47,19 @@ positive_decimal w = if nat_le (length w) 64 then positive_if (decimal_of w) els
 
 -- index: a glass of at most 40 bytes, and a wavelength
 abbrev pub index_command : List ℕ → List ℕ → Option Decimal → Option Command
-index_command agf glass None = None
-index_command agf glass (Some wave) = if nat_le (length glass) 40 then Some (index agf glass wave) else None
+index_command agf name None = None
+index_command agf name (Some wave) = if nat_le (length name) 40 then Some (index agf name wave) else None
 
 -- the command that the words fit; none where they fit no command
 abbrev pub command_of : List (List ℕ) → Option Command
-command_of (name ∷ agf ∷ glass ∷ wave ∷ []) = if same_word name (codes "index") then index_command agf glass (positive_decimal wave) else None
+command_of (word ∷ agf ∷ []) = if same_word word (codes "glass") then Some (glass agf) else None
+command_of (word ∷ agf ∷ name ∷ wave ∷ []) = if same_word word (codes "index") then index_command agf name (positive_decimal wave) else None
 command_of words = None
+
+-- the files that a command names, in the order in which they are read
+abbrev pub files_of : Command → List (FileKind × List ℕ)
+files_of (index agf name wave) = (Agf, agf) ∷ []
+files_of (glass agf) = (Agf, agf) ∷ []
 
 -- a file: absent, longer than 16,777,216 bytes, or what its bytes give
 abbrev pub on_file : FileKind → Option (List ℕ) → (List ℕ → Answer) → Answer
@@ -74,12 +83,17 @@ on_glass (Ok g) wave = printed_index g wave (index_at_12 g wave)
 
 -- index
 abbrev pub index_answer : Files → List ℕ → List ℕ → Decimal → Answer
-index_answer files agf glass wave =
-    on_file Agf (files agf) (λ bytes. on_book (catalogue bytes) (λ book. on_glass (picked book glass wave) wave))
+index_answer files agf name wave =
+    on_file Agf (files agf) (λ bytes. on_book (catalogue bytes) (λ book. on_glass (picked book name wave) wave))
+
+-- glass
+abbrev pub glass_answer : Files → List ℕ → Answer
+glass_answer files agf = on_file Agf (files agf) (λ bytes. on_book (catalogue bytes) (λ book. answer Done (book_text book)))
 
 abbrev pub command_answer : Files → Option Command → Answer
 command_answer files None = answer Usage usage_line
-command_answer files (Some (index agf glass wave)) = index_answer files agf glass wave
+command_answer files (Some (index agf name wave)) = index_answer files agf name wave
+command_answer files (Some (glass agf)) = glass_answer files agf
 
 -- the outcome
 unfoldable pub outcome : Files → List (List ℕ) → Answer
