@@ -1,6 +1,5 @@
-mod Examples
 mod FirstOrderExamples
-mod LaunchRows
+mod LaunchExamples
 mod PrescriptionExamples
 mod SetupExamples
 mod SpotExamples

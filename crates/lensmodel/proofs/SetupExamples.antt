@@ -1,25 +1,18 @@
--- A setup that is well formed, indices that aren't in their range, and rims that are cleared.
-use Rattle.std.proofs.Common.{◌≡◌, refl, ℕ, zero, suc, [], ◌∷◌, arith}
+-- A setup that is well formed, indices, ranges and rims, worked out.
+use Rattle.std.proofs.Common.{◌≡◌, ℕ, zero, suc, refl, arith}
 use Rattle.std.proofs.lemmas.Int.{ints}
-use Rattle.std.specs.Prelude.{◌<◌, ℤ, pos, negsuc, true, false, map, slice_index_or, Some, IsTrue, All}
-use Rattle.fixdec.specs.Decimal.{Decimal}
-use Rattle.fixdec.specs.Frac.{◌*Q◌, whole}
+use Rattle.std.specs.Prelude.{◌<◌, ℤ, slice_index_or, IsTrue, All}
+use Rattle.fixdec.specs.Frac.{whole, ◌*Q◌}
 use Rattle.fixdec.specs.Interval.{ends, iv_widen}
 use Rattle.fixdec.specs.IntervalOperations.{operations}
 use Rattle.fixdec.specs.Scaled.{dec_floor, dec_ceil, dec_span}
-use Rattle.lensmodel.proofs.Examples.{dec, whole_dec, tenths, plane_lens, mirror_lens}
-use Rattle.lensmodel.specs.Chains.{IsInside}
-use Rattle.lensmodel.specs.Constants.{residual_units}
 use Rattle.lensmodel.specs.Dispersion.{IsKnown}
-use Rattle.lensmodel.specs.Picking.{is_good_index}
-use Rattle.lensmodel.specs.Preparation.{index_row}
-use Rattle.lensmodel.specs.Ranges.{is_width, is_residual, is_fan, is_grid, has_place}
+use Rattle.lensmodel.specs.SetupExamples.{MirrorIsWellFormed, AirIndices, Widths, Residuals, Sides, Places, Rims}
+use Rattle.lensmodel.specs.SmallLenses.{whole_dec, tenths, mirror_lens}
 use Rattle.lensmodel.specs.Values.{zero_decimal, reflects}
-use Rattle.lensmodel.specs.WellFormed.{IsWritten, IsWrittenSurface, IsSound, HasMedia, HasBox, HasGoodIndex, IsWellFormed}
+use Rattle.lensmodel.specs.WellFormed.{IsWritten, IsWrittenSurface, IsSound, HasMedia, HasBox, HasGoodIndex}
 use Rattle.lensmodel.specs.WholeFaults.{whole_fault}
 use Rattle.lensmodel.specs.declared.glass.Medium.TheVariants.{Air}
-use Rattle.lensmodel.specs.declared.setup.Setup.{Setup}
-use Rattle.lensmodel.specs.declared.tolerance.TolKind.TheVariants.{Curv, Thic, Indx}
 
 -- an exponent from -60 to 30
 written_0 : IsWritten zero_decimal
@@ -72,7 +65,7 @@ mirror_index zero h = refl
 mirror_index (suc zero) h = refl
 mirror_index (suc (suc j)) h = absurd (omega arith)
 
-mirror_is_well_formed : IsWellFormed mirror_lens
+pub mirror_is_well_formed : MirrorIsWellFormed
 unfolding whole ◌*Q◌
 mirror_is_well_formed = record {
   lens = mirror_sound;
@@ -84,50 +77,28 @@ mirror_is_well_formed = record {
   index = λ j h k. mirror_index j h;
 }
 
--- ---- an index with its tolerance: that of air has no room below it
-abbrev toleranced : Decimal → Setup
-toleranced delta = record plane_lens { toler = Some (record { list = record { items = record { kind = Indx; surface = 0; delta = delta } ∷ [] } }) }
-
-air_without_room : is_good_index (index_row (operations 12) 12 (toleranced (tenths (pos 1))) (residual_units 12 12) 0) ≡ false
+-- ---- indices, ranges, rims
+pub air_indices : AirIndices
 unfolding operations ends iv_widen dec_floor dec_ceil dec_span
-air_without_room = refl
+air_indices = refl
 
-air_with_zero : is_good_index (index_row (operations 12) 12 (toleranced zero_decimal) (residual_units 12 12) 0) ≡ true
-unfolding operations ends iv_widen dec_floor dec_ceil dec_span
-air_with_zero = refl
-
--- ---- ranges at their ends
-widths : map is_width (zero_decimal ∷ dec (pos 1) (negsuc 59) ∷ whole_dec (pos 1000) ∷ dec (pos 10001) (negsuc 0) ∷ []) ≡ false ∷ true ∷ true ∷ false ∷ []
+pub widths : Widths
 unfolding whole ◌*Q◌
 widths = refl
 
-residuals : map is_residual (3 ∷ 4 ∷ 14 ∷ 15 ∷ []) ≡ false ∷ true ∷ true ∷ false ∷ []
+pub residuals : Residuals
 residuals = refl
 
-fans : map is_fan (0 ∷ 1 ∷ 1000 ∷ 1001 ∷ []) ≡ false ∷ true ∷ true ∷ false ∷ []
-fans = refl
+pub sides : Sides
+sides = (refl, refl)
 
-grids : map is_grid (0 ∷ 1 ∷ 60 ∷ 61 ∷ []) ≡ false ∷ true ∷ true ∷ false ∷ []
-grids = refl
+pub places : Places
+places = (refl, refl, refl)
 
--- on a lens whose image is surface 3
-curvature_places : map (has_place 3 Curv) (0 ∷ 1 ∷ 3 ∷ 4 ∷ []) ≡ false ∷ true ∷ true ∷ false ∷ []
-curvature_places = refl
-
-thickness_places : map (has_place 3 Thic) (0 ∷ 1 ∷ 2 ∷ 3 ∷ []) ≡ false ∷ true ∷ true ∷ false ∷ []
-thickness_places = refl
-
-index_places : map (has_place 3 Indx) (0 ∷ 2 ∷ 3 ∷ []) ≡ true ∷ true ∷ false ∷ []
-index_places = refl
-
--- ---- rims: a tie clears, and a point beyond doesn't; a semi-diameter that is no rim clips nothing
-tie : IsInside true (Some (whole_dec (pos 5))) (whole (pos 25))
+pub rims : Rims
 unfolding whole ◌*Q◌
-tie = record { cross = omega (arith, ints) }
-
-beyond : IsInside true (Some (whole_dec (pos 5))) (record { num = pos 25000001; less = 999999 }) → ⊥
-unfolding whole ◌*Q◌
-beyond h = let l = h.cross in absurd (omega (arith, ints))
-
-no_rim : IsInside false (Some (whole_dec (pos 5))) (whole (pos 26))
-no_rim = tt
+rims = record {
+  tie = record { cross = omega (arith, ints) };
+  beyond = λ h. let l = h.cross in absurd (omega (arith, ints));
+  no_rim = tt;
+}

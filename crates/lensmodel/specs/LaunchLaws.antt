@@ -68,7 +68,10 @@ length_rows f (x ∷ xs) ys =
     omega arith
 
 -- a line asks for as many rays as its count says
-pub count_is : (a : Ask) → length (launches a) ≡ count a
+abbrev pub CountIs : Type 0
+CountIs = (a : Ask) → length (launches a) ≡ count a
+
+pub count_is : CountIs
 unfolding launches count
 count_is (Ray x y p q) = refl
 count_is (Aim p q px py z r) = refl
@@ -79,15 +82,21 @@ count_is (Seidel y u yb ub) = refl
 
 -- ---- the rays by their places
 -- the first half of a fan goes along y, the second along x
-pub fan_along_y : (p q : Decimal) (n : ℕ) (z r : Decimal) (j : ℕ) → j < 2 * n + 1
+abbrev pub FanAlongY : Type 0
+FanAlongY = (p q : Decimal) (n : ℕ) (z r : Decimal) (j : ℕ) → j < 2 * n + 1
     → slice_get (launches (Fan p q n z r)) j ≡ Some (Pupil p q middle (part n (pos j -ℤ pos n)) z r)
+
+pub fan_along_y : FanAlongY
 unfolding launches
 fan_along_y p q n z r j h =
     get_left (map (λ py. Pupil p q middle py z r) (parts n)) (map (λ px. Pupil p q px middle z r) (parts n)) j _
     (get_map (λ py. Pupil p q middle py z r) (parts n) j _ (get_parts n j h))
 
-pub fan_along_x : (p q : Decimal) (n : ℕ) (z r : Decimal) (j : ℕ) → j < 2 * n + 1
+abbrev pub FanAlongX : Type 0
+FanAlongX = (p q : Decimal) (n : ℕ) (z r : Decimal) (j : ℕ) → j < 2 * n + 1
     → slice_get (launches (Fan p q n z r)) (2 * n + 1 + j) ≡ Some (Pupil p q (part n (pos j -ℤ pos n)) middle z r)
+
+pub fan_along_x : FanAlongX
 unfolding launches
 fan_along_x p q n z r j h =
     let first = map (λ py. Pupil p q middle py z r) (parts n) in
@@ -112,8 +121,11 @@ get_rows f (w ∷ xs) ys (suc i) j x y h k =
     ∙ get_rows f xs ys i j x y h k
 
 -- a grid goes row by row, x being the same in a row
-pub grid_at : (p q : Decimal) (n : ℕ) (z r : Decimal) (i j : ℕ) → i < 2 * n + 1 → j < 2 * n + 1
+abbrev pub GridAt : Type 0
+GridAt = (p q : Decimal) (n : ℕ) (z r : Decimal) (i j : ℕ) → i < 2 * n + 1 → j < 2 * n + 1
     → slice_get (launches (Spot p q n z r)) (i * (2 * n + 1) + j) ≡ Some (Pupil p q (part n (pos i -ℤ pos n)) (part n (pos j -ℤ pos n)) z r)
+
+pub grid_at : GridAt
 unfolding launches
 grid_at p q n z r i j h k =
     ap (λ (m : ℕ). slice_get (grid (λ px py. Pupil p q px py z r) n) (i * m + j)) (sym (length_parts n))

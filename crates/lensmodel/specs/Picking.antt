@@ -8,7 +8,7 @@ use Rattle.fixdec.specs.Steps.{◌>>=◌}
 use Rattle.fixdec.specs.declared.step.Step.{Step}
 use Rattle.fixdec.specs.declared.step.Step.TheVariants.{Val, Empty, Lost}
 use Rattle.lensmodel.specs.Catalogue.{find_glass, is_used}
-use Rattle.lensmodel.specs.Comparison.{is_below_decimal}
+pub use Rattle.lensmodel.specs.Comparison.{is_below, is_below_decimal}
 use Rattle.lensmodel.specs.IndexRows.{index_rows}
 use Rattle.lensmodel.specs.declared.fault.CrossFault.{CrossFault}
 use Rattle.lensmodel.specs.declared.fault.CrossFault.TheVariants.{NoGlass, Formula, WaveRange, BadIndex}

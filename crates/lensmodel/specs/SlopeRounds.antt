@@ -7,7 +7,7 @@ use Rattle.fixdec.specs.Steps.{◌>>=◌}
 use Rattle.fixdec.specs.declared.step.Step.{Step}
 use Rattle.fixdec.specs.declared.step.Step.TheVariants.{Val, Empty, Lost}
 use Rattle.fixdec.specs.declared.step.Why.TheVariants.{Root}
-use Rattle.lensmodel.specs.Cells.{point, up_to, common, window_row, pruned}
+pub use Rattle.lensmodel.specs.Cells.{point, up_to, common, window_row, cell_rows, is_kept, cut, cells, kept_hull, pruned}
 use Rattle.lensmodel.specs.Constants.{whole_row}
 use Rattle.lensmodel.specs.Preparation.{Prepared}
 use Rattle.lensmodel.specs.SagRows.{horner_rows, first_of}

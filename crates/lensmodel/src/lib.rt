@@ -3,6 +3,7 @@
 
 pub mod certificate;
 pub mod corner;
+pub mod examples;
 pub mod fault;
 pub mod glass;
 pub mod job;

@@ -1,6 +1,5 @@
 -- Small lenses on which the definitions are worked out.
-use Rattle.std.proofs.Common.{List, [], ◌∷◌}
-use Rattle.std.specs.Prelude.{ℤ, pos, negsuc, true, codes, Some, None}
+use Rattle.std.specs.Prelude.{ℤ, ℕ, pos, negsuc, true, List, [], ◌∷◌, codes, Some, None}
 use Rattle.fixdec.specs.Decimal.{Decimal}
 use Rattle.fixdec.specs.Ends.{Ends}
 use Rattle.lensmodel.specs.Values.{plane, zero_decimal}
@@ -10,6 +9,7 @@ use Rattle.lensmodel.specs.declared.glass.Medium.TheVariants.{Air, Of}
 use Rattle.lensmodel.specs.declared.setup.Setup.{Setup}
 use Rattle.lensmodel.specs.declared.surface.Surface.{Surface}
 use Rattle.lensmodel.specs.declared.surface.SurfaceKind.TheVariants.{EvenAsph}
+use Rattle.lensmodel.specs.declared.tolerance.TolKind.TheVariants.{Indx}
 
 abbrev pub dec : ℤ → ℤ → Decimal
 dec mant exp = record { mant = mant; exp = exp }
@@ -77,3 +77,11 @@ sphere_lens = setup (object ∷ curved (tenths (pos 1)) (whole_dec (pos 10)) ∷
 -- a mirror alone
 abbrev pub mirror_lens : Setup
 mirror_lens = setup (object ∷ mirror ∷ plane ∷ []) (Air ∷ Air ∷ [])
+
+-- glass, a mirror in it, and the way back; the image is marked too, which has no effect
+abbrev pub folded_lens : Setup
+folded_lens = setup (object ∷ curved (tenths (pos 1)) (whole_dec (pos 4)) ∷ mirror ∷ plane ∷ mirror ∷ []) (Air ∷ Of flat ∷ Air ∷ Air ∷ [])
+
+-- the plane with a tolerance on the index behind surface j
+abbrev pub toleranced : ℕ → Decimal → Setup
+toleranced j delta = record plane_lens { toler = Some (record { list = record { items = record { kind = Indx; surface = j; delta = delta } ∷ [] } }) }
