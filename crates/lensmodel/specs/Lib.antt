@@ -24,6 +24,7 @@ pub mod Media
 pub mod Outcome
 pub mod Paraxial
 pub mod ParaxialExamples
+pub mod ParaxialLaws
 pub mod ParaxialRows
 pub mod Picking
 pub mod Preparation
@@ -32,6 +33,7 @@ pub mod Printed
 pub mod Ranges
 pub mod Records
 pub mod Residual
+pub mod RowLaws
 pub mod Rows
 pub mod SagRows
 pub mod Seidel
