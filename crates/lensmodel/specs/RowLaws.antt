@@ -3,10 +3,12 @@ use Rattle.std.proofs.Common.{ℕ, [], ◌∷◌, ◌^◌}
 use Rattle.std.specs.Prelude.{ℤ, pos}
 use Rattle.fixdec.specs.Decimal.{Decimal, value}
 use Rattle.fixdec.specs.Frac.{Frac, ◌≈◌, ◌≤Q◌, ◌+Q◌, ◌*Q◌, ◌-Q◌, whole}
+use Rattle.fixdec.specs.FracLaws.{≈_sym}
 use Rattle.fixdec.specs.Linear.{linear, linear_le, fact, name, order, no_fact, reads}
 use Rattle.fixdec.specs.Member.{IsMember, IsNear, Symbols, units}
 use Rattle.fixdec.specs.Operations.{Operations, IsLawful}
 use Rattle.fixdec.specs.Order.{nn_in, nn_whole}
+use Rattle.fixdec.specs.OrderLaws.{le_same_left, le_same_right}
 use Rattle.fixdec.specs.PowerLaws.{dec_span_member}
 use Rattle.fixdec.specs.Scaled.{dec_span}
 use Rattle.fixdec.specs.Steps.{OnVal, OnVal-then}
@@ -32,6 +34,13 @@ near_within scale e eps f g h w = record {
       (order (units_nn scale) w.below (search reads depth 20 fits 4000) (order one_nn h (search reads depth 20 fits 4000) no_fact)) tt;
   below = linear_le (f ∷ g ∷ eps ∷ units scale ∷ whole e ∷ []) _ _ (search reads depth 20 fits 4000)
       (order (units_nn scale) w.above (search reads depth 20 fits 4000) (order one_nn h (search reads depth 20 fits 4000) no_fact)) tt;
+}
+
+-- equal sides may be exchanged
+pub within_right : (eps a b c : Frac) → b ≈ c → IsWithin eps a b → IsWithin eps a c
+within_right eps a b c h w = record {
+  above = le_same_left (≈_sym h) w.above;
+  below = le_same_right w.below (linear (b ∷ c ∷ eps ∷ []) _ _ (search reads depth 16) (name h (search reads depth 16) no_fact) tt);
 }
 
 -- what follows of a value
