@@ -37,6 +37,7 @@ pub mod RowLaws
 pub mod Rows
 pub mod SagRows
 pub mod Seidel
+pub mod SeidelLaws
 pub mod SeidelRows
 pub mod SetupExamples
 pub mod SlopeRounds
@@ -46,6 +47,7 @@ pub mod SpotExamples
 pub mod SpotRows
 pub mod Start
 pub mod StartRows
+pub mod SumLaws
 pub mod TextLines
 pub mod TopCall
 pub mod Values
