@@ -1,6 +1,7 @@
 pub mod Bending
 pub mod BendingRows
 pub mod Catalogue
+pub mod Causes
 pub mod Cells
 pub mod Chain
 pub mod Chains
@@ -16,6 +17,7 @@ pub mod FirstOrderRows
 pub mod HitRows
 pub mod IndexMeaning
 pub mod IndexRows
+pub mod Joining
 pub mod LaunchExamples
 pub mod LaunchLaws
 pub mod Launches

@@ -1,12 +1,9 @@
 -- Well-formed setups: what the trace of a ray takes for granted.
 use Rattle.std.specs.Prelude.{ℕ, ◌≡◌, ◌<◌, ◌≤◌, neg_ℤ, pos, ◌≤ℤ◌, not, List, length, slice_index_or, All, AllPairs, IsTrue, Option, Some, None}
 use Rattle.fixdec.specs.Decimal.{Decimal}
-use Rattle.fixdec.specs.IntervalOperations.{operations}
-use Rattle.lensmodel.specs.Constants.{residual_units}
 use Rattle.lensmodel.specs.Dispersion.{IsKnown}
+use Rattle.lensmodel.specs.Joining.{has_good_index}
 use Rattle.lensmodel.specs.Media.{has_tolerance}
-use Rattle.lensmodel.specs.Picking.{is_good_index}
-use Rattle.lensmodel.specs.Preparation.{index_row}
 use Rattle.lensmodel.specs.Ranges.{is_positive, is_not_negative, is_wave, is_residual, is_width, is_ask, has_place}
 use Rattle.lensmodel.specs.Values.{image, reflects, stands_on, tolerances}
 use Rattle.lensmodel.specs.WholeFaults.{whole_fault}
@@ -80,7 +77,7 @@ pub record HasBox (s : Setup) : Type 0 where
 
 -- the index behind surface j in intervals at scale 12, with its tolerance, lies from 1 to 5
 abbrev pub HasGoodIndex : Setup → ℕ → Type 0
-HasGoodIndex s j = IsTrue (is_good_index (index_row (operations 12) 12 s (residual_units 12 s.res) j))
+HasGoodIndex s j = IsTrue (has_good_index s j)
 
 pub record IsWellFormed (s : Setup) : Type 0 where
   pub lens : IsSound s.lens

@@ -1,7 +1,8 @@
 -- What is wrong with a prescription as a whole.
-use Rattle.std.specs.Prelude.{ℕ, suc, ◌-◌, pos, Bool, ◌&&◌, nat_eq, nat_lt, not, List, [], ◌∷◌, ◌++◌, length, drop, map, slice_index_or, Option, Some, None, is_none, if◌then◌else◌}
+use Rattle.std.specs.Prelude.{ℕ, suc, ◌-◌, pos, Bool, ◌&&◌, nat_eq, nat_lt, not, List, [], ◌∷◌, ◌++◌, length, drop, map, slice_index_or, Option, is_none}
 use Rattle.fixdec.specs.Decimal.{Decimal, value}
 use Rattle.fixdec.specs.Frac.{whole}
+use Rattle.lensmodel.specs.Causes.{fault_if, first_fault}
 use Rattle.lensmodel.specs.Comparison.{is_below, size}
 use Rattle.lensmodel.specs.Values.{plane}
 use Rattle.lensmodel.specs.Zones.{surface_zone, scaled_coefficient}
@@ -11,16 +12,6 @@ use Rattle.lensmodel.specs.declared.prescription.Prescription.{Prescription}
 use Rattle.lensmodel.specs.declared.surface.Surface.{Surface}
 use Rattle.lensmodel.specs.declared.surface.SurfaceKind.{SurfaceKind}
 use Rattle.lensmodel.specs.declared.surface.SurfaceKind.TheVariants.{Standard, EvenAsph}
-
--- a fault, where its cause stands
-abbrev pub fault_if : Bool → ZmxFault → Option ZmxFault
-fault_if stands fault = if stands then Some fault else None
-
--- the first of some causes that stands
-abbrev pub first_fault : List (Option ZmxFault) → Option ZmxFault
-first_fault [] = None
-first_fault (None ∷ more) = first_fault more
-first_fault (Some fault ∷ more) = Some fault
 
 -- whether a coefficient is above 10^9 in size
 abbrev pub is_great : Decimal → Bool
