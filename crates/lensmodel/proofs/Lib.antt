@@ -1,4 +1,5 @@
 mod FirstOrderExamples
+mod JoiningExamples
 mod LaunchExamples
 mod PrescriptionExamples
 mod SetupExamples

@@ -16,7 +16,6 @@ use Rattle.lensmodel.specs.declared.fault.CrossFault.TheVariants.{NoGlass, Formu
 use Rattle.lensmodel.specs.declared.glass.Glass.{Glass}
 use Rattle.lensmodel.specs.declared.glass.Medium.{Medium}
 use Rattle.lensmodel.specs.declared.glass.Medium.TheVariants.{Air, Of}
-use Rattle.lensmodel.specs.declared.job.Job.{Job}
 use Rattle.lensmodel.specs.declared.prescription.Prescription.{Prescription}
 use Rattle.lensmodel.specs.declared.setup.Setup.{Setup}
 use Rattle.lensmodel.specs.declared.surface.Surface.{Surface}
@@ -64,11 +63,17 @@ abbrev pub wave_of : Option Decimal → Prescription → Option Decimal
 wave_of None lens = primary_wave lens.waves.items lens.primary
 wave_of (Some wave) lens = Some wave
 
--- ---- the checks, each over the surfaces before the image in order; all but the last pass over mirrors
-abbrev pub setup_of : Prescription → List Glass → Job → Option TolBox → Decimal → Setup
+-- the numbers of a job that a setup takes
+pub record Settings : Type 0 where
+  pub wave : Option Decimal
+  pub res : ℕ
+  pub width : Decimal
+
+abbrev pub setup_of : Prescription → List Glass → Settings → Option TolBox → Decimal → Setup
 setup_of lens book job toler wave =
     record { lens = lens; media = record { items = media_of book lens }; wave = wave; res = job.res; width = job.width; toler = toler }
 
+-- ---- the checks, each over the surfaces before the image in order; all but the last pass over mirrors
 -- the book has each glass, each formula is used, and there is a wavelength
 abbrev pub glass_faults : Prescription → List Glass → Bool → List (Option CrossFault)
 glass_faults lens book has_wave =
@@ -92,12 +97,12 @@ unless None s = Ok s
 unless (Some fault) s = Err fault
 
 -- without a wavelength there is always a fault, at the latest NoWave
-abbrev pub joined_at : Prescription → List Glass → Job → Option TolBox → Option Decimal → Result Setup CrossFault
+abbrev pub joined_at : Prescription → List Glass → Settings → Option TolBox → Option Decimal → Result Setup CrossFault
 joined_at lens book job toler None = unless (first_fault (glass_faults lens book false)) (setup_of lens book job toler zero_decimal)
 joined_at lens book job toler (Some wave) =
     let s = setup_of lens book job toler wave in
     unless (first_fault (glass_faults lens book true ++ index_faults s)) s
 
 -- the setup, or the first fault
-unfoldable pub joined : Prescription → List Glass → Job → Option TolBox → Result Setup CrossFault
+unfoldable pub joined : Prescription → List Glass → Settings → Option TolBox → Result Setup CrossFault
 joined lens book job toler = joined_at lens book job toler (wave_of job.wave lens)

@@ -18,6 +18,7 @@ pub mod HitRows
 pub mod IndexMeaning
 pub mod IndexRows
 pub mod Joining
+pub mod JoiningExamples
 pub mod LaunchExamples
 pub mod LaunchLaws
 pub mod Launches

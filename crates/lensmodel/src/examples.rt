@@ -1,6 +1,7 @@
 //! Small lenses, jobs and spots on which the definitions are worked out: each function does
 //! nothing, and its contract says what the definitions give.
 
+ghost use Rattle.lensmodel.specs.JoiningExamples.{Wavelengths, Glasses, Tolerances, WideTolerance};
 ghost use Rattle.lensmodel.specs.LaunchExamples.{FanOfTwo, GridOfOne};
 ghost use Rattle.lensmodel.specs.LaunchLaws.{CountIs, FanAlongY, FanAlongX, GridAt};
 ghost use Rattle.lensmodel.specs.ParaxialExamples.{PlaneInAir, GlassSphere, MirrorFocus, SphereSums, ParaboloidSums};
@@ -48,6 +49,14 @@ pub fn setups()
     ensures sides { Sides }
     ensures places { Places }
     ensures rims { Rims }
+{}
+
+/// Lenses, books, jobs and boxes put together: each cross check in its place.
+pub fn joined_setups()
+    ensures wavelengths { Wavelengths }
+    ensures glasses { Glasses }
+    ensures tolerances { Tolerances }
+    ensures wide { WideTolerance }
 {}
 
 /// First-order values of a plane, of a sphere with glass behind it, and of a mirror.
