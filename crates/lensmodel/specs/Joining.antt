@@ -6,6 +6,7 @@ use Rattle.fixdec.specs.IntervalOperations.{operations}
 use Rattle.lensmodel.specs.Catalogue.{find_glass, is_used}
 use Rattle.lensmodel.specs.Causes.{fault_if, first_fault, each_from}
 use Rattle.lensmodel.specs.Constants.{residual_units}
+use Rattle.lensmodel.specs.JobValue.{JobValue}
 use Rattle.lensmodel.specs.Media.{has_tolerance}
 use Rattle.lensmodel.specs.Picking.{is_under, is_over, is_good_index}
 use Rattle.lensmodel.specs.Preparation.{index_row}
@@ -63,13 +64,7 @@ abbrev pub wave_of : Option Decimal → Prescription → Option Decimal
 wave_of None lens = primary_wave lens.waves.items lens.primary
 wave_of (Some wave) lens = Some wave
 
--- the numbers of a job that a setup takes
-pub record Settings : Type 0 where
-  pub wave : Option Decimal
-  pub res : ℕ
-  pub width : Decimal
-
-abbrev pub setup_of : Prescription → List Glass → Settings → Option TolBox → Decimal → Setup
+abbrev pub setup_of : Prescription → List Glass → JobValue → Option TolBox → Decimal → Setup
 setup_of lens book job toler wave =
     record { lens = lens; media = record { items = media_of book lens }; wave = wave; res = job.res; width = job.width; toler = toler }
 
@@ -97,12 +92,12 @@ unless None s = Ok s
 unless (Some fault) s = Err fault
 
 -- without a wavelength there is always a fault, at the latest NoWave
-abbrev pub joined_at : Prescription → List Glass → Settings → Option TolBox → Option Decimal → Result Setup CrossFault
+abbrev pub joined_at : Prescription → List Glass → JobValue → Option TolBox → Option Decimal → Result Setup CrossFault
 joined_at lens book job toler None = unless (first_fault (glass_faults lens book false)) (setup_of lens book job toler zero_decimal)
 joined_at lens book job toler (Some wave) =
     let s = setup_of lens book job toler wave in
     unless (first_fault (glass_faults lens book true ++ index_faults s)) s
 
 -- the setup, or the first fault
-unfoldable pub joined : Prescription → List Glass → Settings → Option TolBox → Result Setup CrossFault
+unfoldable pub joined : Prescription → List Glass → JobValue → Option TolBox → Result Setup CrossFault
 joined lens book job toler = joined_at lens book job toler (wave_of job.wave lens)

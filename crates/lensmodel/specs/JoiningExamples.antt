@@ -1,18 +1,19 @@
 -- Lenses, books and jobs that join, and cross checks that refuse them.
 use Rattle.std.specs.Prelude.{◌≡◌, ℕ, pos, negsuc, true, codes, List, [], ◌∷◌, map, Option, Some, None, Ok, Err}
 use Rattle.fixdec.specs.Decimal.{Decimal}
-use Rattle.lensmodel.specs.Joining.{Settings, joined}
+use Rattle.lensmodel.specs.JobValue.{JobValue}
+use Rattle.lensmodel.specs.Joining.{joined}
 use Rattle.lensmodel.specs.SmallLenses.{dec, tenths, flat, object, curved, plane_lens, mirror_lens, toleranced, setup}
 use Rattle.lensmodel.specs.Values.{plane, zero_decimal}
 use Rattle.lensmodel.specs.declared.fault.CrossFault.TheVariants.{NoGlass, Formula, NoWave, WaveRange, BadIndex, MirrorIndex}
 use Rattle.lensmodel.specs.declared.glass.Glass.{Glass}
 use Rattle.lensmodel.specs.declared.prescription.Prescription.{Prescription}
 
--- the settings of a job
-abbrev pub job_of : Option Decimal → Settings
-job_of wave = record { wave = wave; res = 12; width = dec (pos 1) (negsuc 2) }
+-- a job without rays
+abbrev pub job_of : Option Decimal → JobValue
+job_of wave = record { wave = wave; res = 12; width = dec (pos 1) (negsuc 2); asks = [] }
 
-abbrev pub at_half : Settings
+abbrev pub at_half : JobValue
 at_half = job_of (Some (tenths (pos 5)))
 
 -- a plane with the glass of a name behind it

@@ -3,6 +3,7 @@ pub mod BendingRows
 pub mod Catalogue
 pub mod Causes
 pub mod Cells
+pub mod CertValue
 pub mod Chain
 pub mod Chains
 pub mod Claims
@@ -17,6 +18,7 @@ pub mod FirstOrderRows
 pub mod HitRows
 pub mod IndexMeaning
 pub mod IndexRows
+pub mod JobValue
 pub mod Joining
 pub mod JoiningExamples
 pub mod LaunchExamples

@@ -3,12 +3,12 @@ use Rattle.std.specs.Prelude.{ℕ, ◌≡◌, ◌<◌, ◌≤◌, neg_ℤ, pos, 
 use Rattle.fixdec.specs.Decimal.{Decimal}
 use Rattle.lensmodel.specs.Dispersion.{IsKnown}
 use Rattle.lensmodel.specs.Joining.{has_good_index}
+use Rattle.lensmodel.specs.JobValue.{JobValue}
 use Rattle.lensmodel.specs.Media.{has_tolerance}
 use Rattle.lensmodel.specs.Ranges.{is_positive, is_not_negative, is_wave, is_residual, is_width, is_ask, has_place}
 use Rattle.lensmodel.specs.Values.{image, reflects, stands_on, tolerances}
 use Rattle.lensmodel.specs.WholeFaults.{whole_fault}
 use Rattle.lensmodel.specs.declared.glass.Medium.TheVariants.{Air}
-use Rattle.lensmodel.specs.declared.job.Job.{Job}
 use Rattle.lensmodel.specs.declared.prescription.Prescription.{Prescription}
 use Rattle.lensmodel.specs.declared.setup.Setup.{Setup}
 use Rattle.lensmodel.specs.declared.surface.Surface.{Surface}
@@ -50,11 +50,11 @@ pub record IsSound (lens : Prescription) : Type 0 where
   pub written : IsWrittenLens lens
 
 -- a job whose numbers are in their ranges
-pub record IsInRange (job : Job) : Type 0 where
+pub record IsInRange (job : JobValue) : Type 0 where
   pub wave : IsTrue (is_wave job.wave)
   pub residual : IsTrue (is_residual job.res)
   pub width : IsTrue (is_width job.width)
-  pub asks : All (λ a. IsTrue (is_ask a)) job.asks.items
+  pub asks : All (λ a. IsTrue (is_ask a)) job.asks
 
 -- tolerances that make a box, by the number of the image: at most 32, none below 0, each on a surface that has such a value,
 -- and no two on the same value

@@ -3,6 +3,7 @@
 use crate::fault::TextFault;
 use fixdec::dec::Dec;
 use fixdec::step::Why;
+use std::marker::Model;
 use thiserror::Error;
 
 /// What a certificate claims of a ray.
@@ -43,7 +44,7 @@ pub struct RayCert {
 }
 
 /// A certificate.
-#[derive(Debug, PartialEq, Eq, Drop)]
+#[derive(Debug, Drop)]
 pub struct Cert {
     /// The scale: 6, 9, 12 or 15.
     pub scale: u32,
@@ -51,6 +52,14 @@ pub struct Cert {
     pub parts: Vec<RayCert>,
     /// The places of all parts, in order.
     pub places: Vec<CertPlace>,
+}
+
+impl Model for Cert {
+    ghost use Rattle.lensmodel.specs.CertValue.{CertValue};
+
+    ghost Value = { CertValue };
+
+    ghost view = { λ c. record { scale = c.scale; parts = c.parts.items; places = c.places.items } };
 }
 
 /// Why a claim is not shown at a surface.

@@ -1,6 +1,7 @@
 //! Jobs: what is asked of a lens.
 
 use fixdec::dec::Dec;
+use std::marker::Model;
 
 /// One line of a job that asks for rays. `z` and `r` are the pupil that is in force there.
 #[derive(Clone, Copy, Debug, PartialEq, Eq)]
@@ -78,7 +79,7 @@ pub enum Ask {
 }
 
 /// A job.
-#[derive(Debug, PartialEq, Eq, Drop)]
+#[derive(Debug, Drop)]
 pub struct Job {
     /// The wavelength in micrometres, above 0; None is the lens's primary one.
     pub wave: Option<Dec>,
@@ -88,4 +89,12 @@ pub struct Job {
     pub width: Dec,
     /// The lines that ask for rays, in order.
     pub asks: Vec<Ask>,
+}
+
+impl Model for Job {
+    ghost use Rattle.lensmodel.specs.JobValue.{JobValue};
+
+    ghost Value = { JobValue };
+
+    ghost view = { λ j. record { wave = j.wave; res = j.res; width = j.width; asks = j.asks.items } };
 }
