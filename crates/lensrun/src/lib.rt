@@ -1,6 +1,6 @@
 //! The top call.
 #![tactic(auto)]
 
-mod catalogue;
-pub mod run;
+mod deliver;
+mod due;
 pub mod words;
