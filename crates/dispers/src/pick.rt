@@ -80,8 +80,9 @@ fn is_over(wave: &Dec, high: &Option<Dec>) -> bool
     }
 }
 
-/// The index of a glass of formula 1 or 2 at scale 12, with the residual one unit.
-fn index_at_12(glass: &Glass, wave: &Dec) -> Step<Iv<12>>
+/// The index of a glass of formula 1 or 2 at a wavelength in micrometres, at scale 12, with the
+/// residual one unit.
+pub fn index_at_12(glass: &Glass, wave: &Dec) -> Step<Iv<12>>
     requires { (glass.now.formula ≡ 1) ⊎ (glass.now.formula ≡ 2) }
     ensures { result ≡ picking.index_at_12 glass.now wave.now }
 {

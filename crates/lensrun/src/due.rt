@@ -1,9 +1,9 @@
 //! What a call is due to write.
 
-ghost use Rattle.std.specs.Prelude.{◌≡◌};
+ghost use Rattle.std.specs.Prelude.{◌≡◌, ◌≢◌};
 ghost use Rattle.lensmodel.specs.FaultText.{usage_line, refused_line, crossed_line, agf_cause};
 ghost use Rattle.lensmodel.specs.TopCall.{answer};
-ghost use Rattle.lensrun.specs.Due.{due_answer, IsDueOrNothing, unread_answer};
+ghost use Rattle.lensrun.specs.Due.{due_answer, unread_answer};
 
 use glassbook::book::GlassBook;
 use lensio::transfer::SlurpFault;
@@ -68,7 +68,8 @@ pub fn unread(file: FileKind, fault: SlurpFault) -> Due
 
 /// A catalogue that is refused; nothing where memory was wanting.
 pub fn refused(fault: AgfFault) -> Due
-    ensures { IsDueOrNothing result (answer Status.Refused (refused_line FileKind.Agf (agf_cause fault))) }
+    ensures answer { fault ≢ AgfFault.Memory → due_answer result ≡ answer Status.Refused (refused_line FileKind.Agf (agf_cause fault)) }
+    ensures nothing { fault ≡ AgfFault.Memory → result ≡ Due.Nothing }
 {
     if fault == AgfFault::Memory {
         return Due::Nothing;
