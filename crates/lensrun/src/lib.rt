@@ -4,4 +4,5 @@
 mod answer;
 mod deliver;
 mod due;
+mod gather;
 pub mod words;
