@@ -5,4 +5,5 @@ mod answer;
 mod deliver;
 mod due;
 mod gather;
+pub mod run;
 pub mod words;

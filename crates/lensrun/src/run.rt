@@ -1,0 +1,59 @@
+//! The top call: from the words and the files to the status and the text.
+
+ghost use Rattle.std.specs.Prelude.{◌≡◌, ◌+◌, ◌⊎◌, ◌<◌, [], None, map};
+ghost use Rattle.lensio.specs.Count.{Rose, RoseBy};
+ghost use Rattle.lensio.specs.Taken.{Takes};
+ghost use Rattle.lensmodel.specs.TopCall.{command_of};
+ghost use Rattle.lensrun.specs.Promise.{IsComplete, IsDecided, IsDue, OfFiles, WritesDueFront, WritesReadFault, WritesReadFaultFront};
+
+use crate::deliver::deliver;
+use crate::gather::gather;
+use lensio::shelf::Shelf;
+use lensio::sink::Sink;
+use lensio::transfer::FILE_LIMIT;
+use lensmodel::status::Status;
+use sagform::steps::Steps;
+use std::alloc::Global;
+use std::sync::ledger::Ledger;
+
+/// Does what the words ask: reads the files from the shelf, checks them, and writes the report to
+/// the sink. On every status but `Done`, `WriteFault` and `Memory` the text is one fault line; with
+/// `Memory` nothing is written. Each prepared surface counts a step.
+pub fn run<F: Shelf, K: Sink, L: Ledger>(
+    alloc: Global,
+    words: &[Vec<u8>],
+    shelf: &mut F,
+    out: &mut K,
+    steps: &mut Steps<L>,
+) -> Status
+    // No command prepares a surface.
+    ensures prepared { steps.new ≡ steps.old }
+
+    // The status and the text that are due, unless the outside fails.
+    ensures outcome { let said = map (λ w. w.items) words.now in IsDecided result → OfFiles (F.held shelf.old) (IsDue said result (K.taken out.old) (K.taken out.new)) }
+    ensures usage { command_of (map (λ w. w.items) words.now) ≡ None → (result ≡ Status.Usage) ⊎ (result ≡ Status.WriteFault) }
+
+    // Each of these comes only by its cause.
+    ensures absent { result ≡ Status.Absent → Rose (F.absences shelf.old) (F.absences shelf.new) }
+    ensures read_fault { result ≡ Status.ReadFault → Rose (F.faults shelf.old) (F.faults shelf.new) }
+    ensures too_long { result ≡ Status.TooLong → RoseBy (FILE_LIMIT + 1) (F.given shelf.old) (F.given shelf.new) }
+    ensures too_long_where { F.given shelf.old + FILE_LIMIT < F.given shelf.new → (result ≡ Status.TooLong) ⊎ (result ≡ Status.WriteFault) }
+    ensures write_fault { result ≡ Status.WriteFault → Rose (K.faults out.old) (K.faults out.new) }
+
+    // What is written where the outside fails: the line of a failed read, a front of the text of a
+    // sink that fails, and nothing for want of memory.
+    ensures read_fault_text { let said = map (λ w. w.items) words.now in result ≡ Status.ReadFault → WritesReadFault said (K.taken out.old) (K.taken out.new) }
+    ensures front { let said = map (λ w. w.items) words.now in result ≡ Status.WriteFault →
+        WritesDueFront (F.held shelf.old) said (K.taken out.old) (K.taken out.new)
+        ⊎ (Rose (F.faults shelf.old) (F.faults shelf.new) × WritesReadFaultFront said (K.taken out.old) (K.taken out.new)) }
+    ensures silent { result ≡ Status.Memory → Takes (K.taken out.old) (K.taken out.new) [] }
+
+    // Where nothing of the outside fails, a report that is due is written, unless memory is wanting.
+    ensures complete { let said = map (λ w. w.items) words.now in
+        ¬ Rose (F.absences shelf.old) (F.absences shelf.new) → ¬ Rose (F.faults shelf.old) (F.faults shelf.new) → ¬ Rose (K.faults out.old) (K.faults out.new)
+        → IsComplete (F.held shelf.old) said result }
+{
+    let _steps = steps;
+    let due = gather(alloc, words, shelf);
+    deliver(&due, out)
+}
