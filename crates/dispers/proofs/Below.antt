@@ -1,5 +1,5 @@
 -- The order of decimals, in whole numbers: a power of ten on one side, or a rounded quotient on the other.
-use Rattle.std.proofs.Common.{◌≡◌, ℕ, zero, suc, ◌<◌, ◌≤◌, ◌^◌, ◌*◌, min, Bool, true, false, refl, sym, ◌∙◌, ap, subst, [], ◌∷◌, arith}
+use Rattle.std.proofs.Common.{◌≡◌, ℕ, zero, suc, ◌<◌, ◌≤◌, ◌^◌, min, sym, subst, [], ◌∷◌, arith}
 use Rattle.std.proofs.Math.Nat.{pow-le-pow_right}
 use Rattle.std.proofs.lemmas.Bool.Decides.{same_from_decides, Decides-like}
 use Rattle.std.proofs.lemmas.Int.{ints, by_lt_z}
@@ -7,7 +7,7 @@ use Rattle.std.specs.Bool.{Decides}
 use Rattle.std.specs.Prelude.{ℤ, pos, negsuc, ◌+ℤ◌, ◌*ℤ◌, ◌<ℤ◌, int_lt, unsigned_abs}
 use lib.IntN.{neg_ℤ}
 use Rattle.fixdec.specs.Decimal.{Decimal, ten_power, value}
-use Rattle.fixdec.specs.Frac.{Frac, ◌≈◌, ◌≤Q◌, ◌<Q◌, ◌*Q◌, whole}
+use Rattle.fixdec.specs.Frac.{◌≈◌, ◌≤Q◌, ◌<Q◌, whole}
 use Rattle.fixdec.specs.FracLaws.{≈_refl, ≈_sym, ≈_trans}
 use Rattle.fixdec.specs.IntLaws.{ringℤ}
 use Rattle.fixdec.specs.Linear.{linear, fact, no_fact, reads}
@@ -18,7 +18,7 @@ use Rattle.fixdec.specs.PowerLaws.{value-times}
 use Rattle.fixdec.specs.Ring.{var, ◌⊗◌, neg}
 use Rattle.fixdec.specs.Rounding.{ratio, IsCeil}
 use Rattle.fixdec.specs.RoundingLaws.{ratio_is}
-use Rattle.lensmodel.specs.Picking.{is_below, is_below_decimal}
+use Rattle.lensmodel.specs.Picking.{is_below_decimal}
 
 -- each of two facts follows from the other
 record Same (P Q : Type 0) : Type 0 where

@@ -1,0 +1,2 @@
+pub mod IndexAt12
+pub mod Picked

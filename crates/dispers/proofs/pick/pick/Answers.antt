@@ -1,5 +1,4 @@
-use Rattle.std.proofs.Common.{sym, ◌∙◌, ap}
-use Rattle.lensmodel.specs.Picking.{picked, usable_if_found, medium_of}
+use Rattle.lensmodel.specs.Picking.{picked}
 use Rattle.dispers.proofs.pick.pick.Goals as goal
 
 pub returns-in-Some : goal.returns-in-Some
