@@ -109,6 +109,7 @@ great_power m n k small h = by m
   where
     great : 10 ^ 30 ≤ 10 ^ k
     great = pow-le-pow_right (omega arith) h
+
     by : (m : ℤ) → Same ((m *ℤ pos (10 ^ 30)) <ℤ n) ((m *ℤ pos (10 ^ k)) <ℤ n)
     by (pos zero) = record { there = λ l. omega (arith, ints); back = λ l. omega (arith, ints) }
     by (pos (suc m)) = let g = great in record { there = λ l. omega (arith, ints); back = λ l. omega (arith, ints) }
@@ -120,11 +121,11 @@ below_multiple m n c k small i =
     by_lt_z (pos k) (pos 30)
     (λ l. let e : min k 30 ≡ k = omega (arith, ints) in same_tests _ _ _ _ (rw e at s))
     (λ l.
-        let e : min k 30 ≡ 30 = omega (arith, ints) in
-        let h : 30 ≤ k = omega (arith, ints) in
-        let g = great_power m n k small h in
-        let t = rw e at s in
-        same_tests _ _ _ _ (record { there = λ x. g.there (t.there x); back = λ x. t.back (g.back x) }))
+    let e : min k 30 ≡ 30 = omega (arith, ints) in
+    let h : 30 ≤ k = omega (arith, ints) in
+    let g = great_power m n k small h in
+    let t = rw e at s in
+    same_tests _ _ _ _ (record { there = λ x. g.there (t.there x); back = λ x. t.back (g.back x) }))
 
 -- ---- two decimals, by how far their exponents lie apart
 pub below_from_above : (a b : Decimal) (k : ℕ) → a.exp ≡ b.exp +ℤ pos k → is_below_decimal a b ≡ int_lt (a.mant *ℤ pos (10 ^ k)) b.mant
