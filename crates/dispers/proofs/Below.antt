@@ -1,5 +1,5 @@
 -- The order of decimals, in whole numbers: a power of ten on one side, or a rounded quotient on the other.
-use Rattle.std.proofs.Common.{◌≡◌, ℕ, zero, suc, ◌<◌, ◌≤◌, ◌^◌, ◌*◌, min, Bool, true, false, refl, sym, ◌∙◌, ap, subst, [], ◌∷◌, arith}
+use Rattle.std.proofs.Common.{◌≡◌, ℕ, zero, suc, ◌<◌, ◌≤◌, ◌^◌, min, sym, subst, [], ◌∷◌, arith}
 use Rattle.std.proofs.Math.Nat.{pow-le-pow_right}
 use Rattle.std.proofs.lemmas.Bool.Decides.{same_from_decides, Decides-like}
 use Rattle.std.proofs.lemmas.Int.{ints, by_lt_z}
@@ -7,7 +7,7 @@ use Rattle.std.specs.Bool.{Decides}
 use Rattle.std.specs.Prelude.{ℤ, pos, negsuc, ◌+ℤ◌, ◌*ℤ◌, ◌<ℤ◌, int_lt, unsigned_abs}
 use lib.IntN.{neg_ℤ}
 use Rattle.fixdec.specs.Decimal.{Decimal, ten_power, value}
-use Rattle.fixdec.specs.Frac.{Frac, ◌≈◌, ◌≤Q◌, ◌<Q◌, ◌*Q◌, whole}
+use Rattle.fixdec.specs.Frac.{◌≈◌, ◌≤Q◌, ◌<Q◌, whole}
 use Rattle.fixdec.specs.FracLaws.{≈_refl, ≈_sym, ≈_trans}
 use Rattle.fixdec.specs.IntLaws.{ringℤ}
 use Rattle.fixdec.specs.Linear.{linear, fact, no_fact, reads}
@@ -18,7 +18,7 @@ use Rattle.fixdec.specs.PowerLaws.{value-times}
 use Rattle.fixdec.specs.Ring.{var, ◌⊗◌, neg}
 use Rattle.fixdec.specs.Rounding.{ratio, IsCeil}
 use Rattle.fixdec.specs.RoundingLaws.{ratio_is}
-use Rattle.lensmodel.specs.Picking.{is_below, is_below_decimal}
+use Rattle.lensmodel.specs.Picking.{is_below_decimal}
 
 -- each of two facts follows from the other
 record Same (P Q : Type 0) : Type 0 where
@@ -109,6 +109,7 @@ great_power m n k small h = by m
   where
     great : 10 ^ 30 ≤ 10 ^ k
     great = pow-le-pow_right (omega arith) h
+
     by : (m : ℤ) → Same ((m *ℤ pos (10 ^ 30)) <ℤ n) ((m *ℤ pos (10 ^ k)) <ℤ n)
     by (pos zero) = record { there = λ l. omega (arith, ints); back = λ l. omega (arith, ints) }
     by (pos (suc m)) = let g = great in record { there = λ l. omega (arith, ints); back = λ l. omega (arith, ints) }
@@ -120,11 +121,11 @@ below_multiple m n c k small i =
     by_lt_z (pos k) (pos 30)
     (λ l. let e : min k 30 ≡ k = omega (arith, ints) in same_tests _ _ _ _ (rw e at s))
     (λ l.
-        let e : min k 30 ≡ 30 = omega (arith, ints) in
-        let h : 30 ≤ k = omega (arith, ints) in
-        let g = great_power m n k small h in
-        let t = rw e at s in
-        same_tests _ _ _ _ (record { there = λ x. g.there (t.there x); back = λ x. t.back (g.back x) }))
+    let e : min k 30 ≡ 30 = omega (arith, ints) in
+    let h : 30 ≤ k = omega (arith, ints) in
+    let g = great_power m n k small h in
+    let t = rw e at s in
+    same_tests _ _ _ _ (record { there = λ x. g.there (t.there x); back = λ x. t.back (g.back x) }))
 
 -- ---- two decimals, by how far their exponents lie apart
 pub below_from_above : (a b : Decimal) (k : ℕ) → a.exp ≡ b.exp +ℤ pos k → is_below_decimal a b ≡ int_lt (a.mant *ℤ pos (10 ^ k)) b.mant

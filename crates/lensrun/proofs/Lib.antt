@@ -1,3 +1,5 @@
-pub mod Lines
-pub mod Outcomes
-pub mod Usability
+mod Deliveries
+mod Lines
+mod Meaning
+mod Outcomes
+mod Usability

@@ -2,6 +2,7 @@
 use Rattle.std.proofs.Common.{◌≡◌, ◌≢◌, ◌⊎◌, ℕ, List, Bool, true, false, refl, sym, subst, ap, ◌∙◌, inl, inr}
 use Rattle.std.specs.Prelude.{Option, Some, None, Result, Ok, Err, not, if◌then◌else◌}
 use Rattle.std.proofs.lemmas.Bool.{or_cases}
+use Rattle.dispers.specs.Picked.{picked-is}
 use Rattle.fixdec.specs.Decimal.{Decimal}
 use Rattle.lensmodel.specs.Catalogue.{find_glass, is_used}
 use Rattle.lensmodel.specs.Dispersion.{IsKnown}
@@ -16,30 +17,17 @@ use Rattle.lensmodel.specs.declared.glass.Glass.{Glass}
 use Rattle.lensmodel.specs.declared.glass.Medium.{Medium}
 use Rattle.lensmodel.specs.declared.glass.Medium.TheVariants.{Of}
 use Rattle.lensmodel.specs.declared.status.Status.TheVariants.{Refused}
-use Rattle.lensrun.specs.Usable.{IsUsable, medium_answer}
+use Rattle.lensrun.specs.Usable.{IsUsableMedium, medium_answer}
 
--- what each test of a glass decides
-tested : (used low high good : Bool) (g : Glass) (m : Medium)
-    → medium_of (if not used then Err (Formula 0) else if low then Err (WaveRange 0) else if high then Err (WaveRange 0) else if good then Ok g else Err (BadIndex 0)) ≡ Ok m
-    → (Of g ≡ m) × (used ≡ true) × (good ≡ true)
-tested true false false true g m e = (cc, refl, refl)
-tested true false false false g m e = absurd (cc)
-tested true false true good g m e = absurd (cc)
-tested true true high good g m e = absurd (cc)
-tested false low high good g m e = absurd (cc)
-
-usable_if_tested : (g : Glass) (wave : Decimal) (m : Medium) → medium_of (usable g wave) ≡ Ok m → IsUsable m wave
-usable_if_tested g wave m e =
-    let t = tested (is_used g.formula) (is_under wave g.low) (is_over wave g.high) (is_good_index (index_at_12 g wave)) g m e in
-    subst (λ (m : Medium). IsUsable m wave) t.0 (t.1, t.2)
-
-usable_if_named : (o : Option Glass) (wave : Decimal) (m : Medium) → medium_of (usable_if_found o wave) ≡ Ok m → IsUsable m wave
-usable_if_named None wave m e = absurd (cc)
-usable_if_named (Some g) wave m e = usable_if_tested g wave m e
-
-pub picked_usable : (book : List Glass) (name : List ℕ) (wave : Decimal) (m : Medium) → medium_of (picked book name wave) ≡ Ok m → IsUsable m wave
-unfolding picked
-picked_usable book name wave m e = usable_if_named (find_glass name book) wave m e
+pub picked_usable : (book : List Glass) (name : List ℕ) (wave : Decimal) (m : Medium) → medium_of (picked book name wave) ≡ Ok m → IsUsableMedium m wave
+picked_usable book name wave m e = by (picked book name wave) refl e
+  where
+    by : (r : Result Glass CrossFault) → picked book name wave ≡ r → medium_of r ≡ Ok m → IsUsableMedium m wave
+    by (Ok g) is e =
+        let same : Of g ≡ m = cc in
+        let p = picked-is book name wave g is in
+        subst (λ (m : Medium). IsUsableMedium m wave) same p.usable
+    by (Err fault) is e = absurd (cc)
 
 -- the answer by the medium, or by the fault
 pub picked_answer : (r : Result Glass CrossFault) (wave : Decimal) (m : Medium) → medium_of r ≡ Ok m → medium_answer m wave ≡ on_glass r wave

@@ -1,17 +1,17 @@
 -- Media whose index is printed at a wavelength.
-use Rattle.std.specs.Prelude.{◌≡◌, true, []}
+use Rattle.std.specs.Prelude.{[]}
+use Rattle.dispers.specs.Picked.{IsUsable}
 use Rattle.fixdec.specs.Decimal.{Decimal}
-use Rattle.lensmodel.specs.Catalogue.{is_used}
-use Rattle.lensmodel.specs.Picking.{index_at_12, is_good_index}
+use Rattle.lensmodel.specs.Picking.{index_at_12}
 use Rattle.lensmodel.specs.TopCall.{Answer, answer, printed_index}
 use Rattle.lensmodel.specs.declared.glass.Medium.{Medium}
 use Rattle.lensmodel.specs.declared.glass.Medium.TheVariants.{Air, Of}
 use Rattle.lensmodel.specs.declared.status.Status.TheVariants.{Done}
 
--- a glass of a formula that is used, whose index is enclosed between 1 and 5
-abbrev pub IsUsable : Medium → Decimal → Type 0
-IsUsable Air wave = ⊥
-IsUsable (Of g) wave = (is_used g.formula ≡ true) × (is_good_index (index_at_12 g wave) ≡ true)
+-- a glass that can be used
+abbrev pub IsUsableMedium : Medium → Decimal → Type 0
+IsUsableMedium Air wave = ⊥
+IsUsableMedium (Of g) wave = IsUsable g wave
 
 -- the line of its index
 abbrev pub medium_answer : Medium → Decimal → Answer

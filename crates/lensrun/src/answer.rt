@@ -5,7 +5,7 @@ ghost use Rattle.lensmodel.specs.Picking.{picked};
 ghost use Rattle.lensmodel.specs.TopCall.{on_glass};
 ghost use Rattle.lensrun.specs.Asked.{asked, HasWavelength};
 ghost use Rattle.lensrun.specs.Due.{due_answer, IsDueOrNothing, book_answer, bytes_answer};
-ghost use Rattle.lensrun.specs.Usable.{IsUsable, medium_answer};
+ghost use Rattle.lensrun.specs.Usable.{IsUsableMedium, medium_answer};
 
 use crate::due::{Due, crossed, refused};
 use crate::words::Command;
@@ -57,7 +57,7 @@ fn index_answer(book: &GlassBook, name: &Name, wave: &Dec) -> Due
 
 /// The line of the index of a glass that was picked at the wavelength.
 fn index_line(medium: &Medium, wave: &Dec) -> Due
-    requires { IsUsable medium.now wave.now }
+    requires { IsUsableMedium medium.now wave.now }
     ensures { due_answer result ≡ medium_answer medium.now wave.now }
 {
     let Medium::Of(glass) = medium else {

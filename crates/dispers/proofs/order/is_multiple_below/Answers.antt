@@ -1,5 +1,5 @@
-use Rattle.std.proofs.Common.{◌≡◌, ℤ, pos, ◌^◌, min, ap, sym, ◌∙◌, subst}
-use Rattle.std.specs.Int.{w128, cast_signed, cast_unsigned}
+use Rattle.std.proofs.Common.{◌≡◌, pos, ◌^◌, min, ap, ◌∙◌, subst}
+use Rattle.std.specs.Int.{w128}
 use Rattle.std.specs.Prelude.{FitsSigned}
 use Rattle.std.proofs.lemmas.Int.{to_z-of_z}
 use Rattle.fixdec.specs.Rounding.{ratio, IsCeil}

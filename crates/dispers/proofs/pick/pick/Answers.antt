@@ -1,11 +1,17 @@
-use Rattle.std.proofs.Common.{sym, ◌∙◌, ap}
-use Rattle.lensmodel.specs.Picking.{picked, usable_if_found, medium_of}
+use Rattle.lensmodel.specs.Picking.{picked}
+use Rattle.dispers.proofs.Sound.{picked-sound}
 use Rattle.dispers.proofs.pick.pick.Goals as goal
 
-pub returns-in-Some : goal.returns-in-Some
+pub returns-in-Some-clause-exact : goal.returns-in-Some-clause-exact
 unfolding picked
-returns-in-Some c = let h = c.in-Some.ensures in record { exact = rw (← h) c.usable.ensures }
+returns-in-Some-clause-exact c = let h = c.in-Some.ensures in rw (← h) c.usable.ensures
 
-pub returns-in-None : goal.returns-in-None
+pub returns-in-None-clause-exact : goal.returns-in-None-clause-exact
 unfolding picked
-returns-in-None c = let h = c.in-None.ensures in record { exact = rw (← h) }
+returns-in-None-clause-exact c = let h = c.in-None.ensures in rw (← h)
+
+pub returns-in-Some-clause-sound : goal.returns-in-Some-clause-sound
+returns-in-Some-clause-sound c = picked-sound c.args.book.now c.args.name.now.items c.args.wave.now _ (returns-in-Some-clause-exact c)
+
+pub returns-in-None-clause-sound : goal.returns-in-None-clause-sound
+returns-in-None-clause-sound c = picked-sound c.args.book.now c.args.name.now.items c.args.wave.now _ (returns-in-None-clause-exact c)
