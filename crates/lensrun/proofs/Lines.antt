@@ -16,8 +16,8 @@ front_within n xs ys =
     ∙ (elim (cases_lt n (length xs)) [
       | inl h ↦ let e : min n (length xs) ≡ n = omega arith in ap (λ k. take k xs) e
       | inr h ↦
-        let e : min n (length xs) ≡ length xs = omega arith in
-        ap (λ k. take k xs) e ∙ take_all (length xs) xs (omega arith) ∙ sym (take_all n xs (omega arith))
+          let e : min n (length xs) ≡ length xs = omega arith in
+          ap (λ k. take k xs) e ∙ take_all (length xs) xs (omega arith) ∙ sym (take_all n xs (omega arith))
     ])
 
 -- a front of bytes is a front of them with more behind
@@ -32,8 +32,8 @@ glass_lines-append (g ∷ xs) ys = ap (λ l. glass_line g ++ l) (glass_lines-app
 pub one_more : (book : List Glass) (i : ℕ) (g : Glass) → slice_get book i ≡ Some g → glass_lines (take (i + 1) book) ≡ glass_lines (take i book) ++ glass_line g
 one_more book i g e =
     rw add-one (ap glass_lines (take-suc book i g (slice_get_within book i g e) ∙ ap (λ x. take i book ++ x ∷ []) (get_or_from_slice_get book i g g e))
-        ∙ glass_lines-append (take i book) (g ∷ [])
-        ∙ ap (λ l. glass_lines (take i book) ++ l) (append-nil (glass_line g)))
+    ∙ glass_lines-append (take i book) (g ∷ [])
+    ∙ ap (λ l. glass_lines (take i book) ++ l) (append-nil (glass_line g)))
 
 -- the lines of the first glasses and of the others
 pub all_lines : (book : List Glass) (i : ℕ) → glass_lines book ≡ glass_lines (take i book) ++ glass_lines (drop i book)

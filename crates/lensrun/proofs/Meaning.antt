@@ -60,6 +60,7 @@ module _ (files : Files) (agf name : List ℕ) (wave : Decimal) where
       in_time : (long : Bool) (a : Answer) → PrintsWhenDone a → PrintsWhenDone (if long then answer TooLong (too_long_line Agf) else a)
       in_time true a h = λ done. cc
       in_time false a h = h
+
       by : (o : Option (List ℕ)) → files agf ≡ o
           → PrintsWhenDone (on_file Agf o (λ bytes. on_book (catalogue bytes) (λ book. on_glass (picked book name wave) wave)))
       by None e = λ done. cc

@@ -6,4 +6,6 @@ mod deliver;
 mod due;
 mod gather;
 pub mod run;
+#[cfg(test)]
+mod tests;
 pub mod words;

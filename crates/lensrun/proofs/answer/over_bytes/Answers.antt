@@ -10,5 +10,5 @@ returns-in-Err c =
     elim (cases_memory c.in-Err.fault) [
       | inl is ↦ inl (c.refused.ensures.nothing is)
       | inr not ↦
-        inr (c.refused.ensures.answer not ∙ ap (λ r. on_book r (book_answer (asked c.args.command.now))) (sym (c.in-Err.ensures.fault not)))
+          inr (c.refused.ensures.answer not ∙ ap (λ r. on_book r (book_answer (asked c.args.command.now))) (sym (c.in-Err.ensures.fault not)))
     ]

@@ -23,9 +23,9 @@ returns-in-Ok-clause-outcome g c =
     λ decided. elim c.over_bytes.ensures [
       | inl nothing ↦ absurd (subst (λ (d : Due). IsDecided (due_answer d).status) nothing decided)
       | inr due ↦
-        read_outcome (g.F.Shelf.held c.args.shelf.now) (said c.args.words.now) (asked c.in-Some.command) c.catalogue.result.now c.in-Ok.bytes.items
-            (due_answer c.over_bytes.result) c.in-Some.ensures.exact c.catalogue.ensures c.in-Ok.ensures.bytes (omega (arith, c.in-Ok.ensures.within))
-            (due ∙ ap (bytes_answer (asked c.in-Some.command)) c.as_slice.ensures.value)
+          read_outcome (g.F.Shelf.held c.args.shelf.now) (said c.args.words.now) (asked c.in-Some.command) c.catalogue.result.now c.in-Ok.bytes.items
+          (due_answer c.over_bytes.result) c.in-Some.ensures.exact c.catalogue.ensures c.in-Ok.ensures.bytes (omega (arith, c.in-Ok.ensures.within))
+          (due ∙ ap (bytes_answer (asked c.in-Some.command)) c.as_slice.ensures.value)
     ]
 
 pub returns-in-Err-clause-outcome : goal.returns-in-Err-clause-outcome
