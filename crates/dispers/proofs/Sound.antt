@@ -1,9 +1,9 @@
 -- A medium that was picked has indices from 1 to 5.
-use Rattle.std.proofs.Common.{◌≡◌, ℕ, ◌^◌, pos, List, Result, Ok, Err, refl, subst, sym, [], ◌∷◌}
+use Rattle.std.proofs.Common.{◌≡◌, ℕ, ◌^◌, pos, List, Result, Ok, Err, refl, subst, sym}
 use Rattle.std.specs.Prelude.{IfOk, ◌≤ℤ◌}
 use Rattle.fixdec.specs.Decimal.{Decimal}
 use Rattle.fixdec.specs.Ends.{Ends}
-use Rattle.fixdec.specs.Frac.{Frac, ◌≤Q◌, ◌*Q◌, whole}
+use Rattle.fixdec.specs.Frac.{Frac}
 use Rattle.fixdec.specs.Member.{IsMember, units}
 use Rattle.fixdec.specs.MemberLaws.{units_pos}
 use Rattle.fixdec.specs.Order.{le_trans, le_whole}
@@ -17,7 +17,7 @@ use Rattle.lensmodel.specs.declared.glass.Glass.{Glass}
 use Rattle.lensmodel.specs.declared.glass.Medium.{Medium}
 use Rattle.dispers.specs.IndexAt12.{index_at_12-holds}
 use Rattle.dispers.specs.Limits.{IsFrom1To5}
-use Rattle.dispers.specs.Picked.{IsPicked, known_if_used, picked-is}
+use Rattle.dispers.specs.Picked.{known_if_used, picked-is}
 
 -- what lies between the ends of an interval from 1 to 5 does too
 within_limits : (e : Ends) (n : Frac) → pos 1_000_000_000_000 ≤ℤ e.lo → e.hi ≤ℤ pos 5_000_000_000_000 → IsMember 12 e n → IsFrom1To5 n

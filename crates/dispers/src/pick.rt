@@ -141,7 +141,9 @@ mod tests {
     }
 
     /// A glass with two coefficients and no range.
-    fn glass(text: &str, formula: u32, c0: Dec, c1: Dec) -> Glass {
+    fn glass(text: &str, formula: u32, c0: Dec, c1: Dec) -> Glass
+        ensures { result.formula ≡ formula }
+    {
         let zero = Dec::default();
         Glass {
             name: name(text),
@@ -158,7 +160,9 @@ mod tests {
     }
 
     /// A crown glass that is used from 0.3 to 2.5 micrometres.
-    fn crown() -> Glass {
+    fn crown() -> Glass
+        ensures { (result.formula ≡ 1) ⊎ (result.formula ≡ 2) }
+    {
         Glass {
             c2: dec(231792344, -9),
             c3: dec(200179144, -10),
