@@ -1,0 +1,66 @@
+//! Forms.
+
+ghost use Rattle.std.specs.Prelude.{◌≡◌, ℕ, ℤ, pos, ◌≤◌, ◌<◌, ◌^◌, ◌+◌, unsigned_abs, slice_index_or};
+ghost use Rattle.fixdec.specs.Form as spec;
+ghost use Rattle.fixdec.specs.Form.{LinearForm};
+ghost use Rattle.forms.specs.Kept.{IsKept};
+
+use crate::coefficients::sizes;
+use fixdec::span::CAP;
+use fixdec::step::{Step, Why};
+use std::marker::Model;
+
+/// A linear form at the scale `S`.
+#[derive(Clone, Copy, Debug, PartialEq, Eq)]
+pub struct Form<const S: u32> {
+    centre: i128,
+    coefficients: [i128; 32],
+    radius: u128,
+}
+
+impl<const S: u32> Model for Form<S> {
+    ghost Value = { LinearForm };
+
+    ghost view = { λ f. record { centre = f.centre; coefficients = f.coefficients; radius = f.radius } };
+
+    ghost invariant = { λ f. IsKept (record { centre = f.centre; coefficients = f.coefficients; radius = f.radius }) };
+
+    ghost inverse = { λ e. record { centre = e.centre; coefficients = e.coefficients; radius = e.radius } };
+}
+
+impl<const S: u32> Form<S> {
+    /// The coefficient of symbol `i`, a raw number.
+    pub fn coefficient(&self, i: usize) -> i128
+        requires { i < 32 }
+        ensures { result ≡ slice_index_or self.now.coefficients i (pos 0) }
+    {
+        self.coefficients[i]
+    }
+}
+
+// the deviation
+fn dev(coefficients: &[i128; 32], radius: u128) -> u128
+    requires sizes { spec.sizes coefficients.now ≤ 10 ^ 37 }
+    requires radius { radius ≤ 10 ^ 37 }
+    ensures { result ≡ spec.sizes coefficients.now + radius }
+{
+    sizes(coefficients) + radius
+}
+
+// the form, or Lost(Range) where its centre's size and deviation pass the cap
+fn kept<const S: u32>(centre: i128, coefficients: [i128; 32], radius: u128) -> Step<Form<S>>
+    requires centre { unsigned_abs centre ≤ 10 ^ 37 }
+    requires sizes { spec.sizes coefficients ≤ 10 ^ 37 }
+    requires radius { radius ≤ 10 ^ 37 }
+    ensures { result ≡ spec.kept (record { centre = centre; coefficients = coefficients; radius = radius }) }
+{
+    if centre.unsigned_abs() + dev(&coefficients, radius) <= CAP.unsigned_abs() {
+        Step::Val(Form {
+            centre,
+            coefficients,
+            radius,
+        })
+    } else {
+        Step::Lost(Why::Range)
+    }
+}
