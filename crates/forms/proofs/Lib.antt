@@ -1,1 +1,3 @@
+pub mod Floors
 pub mod Lists
+pub mod Sizes

@@ -1,7 +1,7 @@
 -- Lists of coefficients, element by element.
-use Rattle.std.proofs.Common.{◌≡◌, ℕ, zero, suc, ◌+◌, ◌*◌, ◌≤◌, ◌<◌, List, [], ◌∷◌, length, get_or, map, arith, refl, ap, sym, ◌∙◌}
-use Rattle.std.specs.Prelude.{ℤ, pos, unsigned_abs}
-use Rattle.std.proofs.lemmas.List.{ext_get_or, length-map, get_or-map}
+use Rattle.std.proofs.Common.{◌≡◌, ℕ, zero, suc, ◌+◌, ◌*◌, ◌≤◌, ◌<◌, List, [], ◌∷◌, length, get_or, set, map, below_more, arith, refl, ap, sym, ◌∙◌}
+use Rattle.std.specs.Prelude.{ℤ, pos, ◌≢◌, unsigned_abs}
+use Rattle.std.proofs.lemmas.List.{ext_get_or, length-map, get_or-map, get_or-set_same, get_or-set_other}
 use Rattle.std.proofs.lemmas.List.Sums.{get_or-le-sum_by}
 use Rattle.fixdec.specs.Form.{combined, sizes}
 
@@ -35,3 +35,10 @@ pub map_is : (f : ℤ → ℤ) (ks rs : List ℤ) (n : ℕ) → length ks ≡ n 
 map_is f ks rs n p q h =
     ext_get_or (pos 0) rs (map f ks) (q ∙ sym (length-map ks f ∙ p))
     (λ i k. h i (omega arith) ∙ sym (get_or-map f ks i (pos 0) (pos 0) (omega arith)))
+
+-- what an element of a list is, also for the one that is written at i
+pub each_more : (f : ℕ → ℤ) (rs : List ℤ) (i : ℕ) (v : ℤ) → i < length rs → ((k : ℕ) → k < i → get_or rs k (pos 0) ≡ f k) → v ≡ f i
+    → (k : ℕ) → k < i + 1 → get_or (set rs i v) k (pos 0) ≡ f k
+each_more f rs i v h each e =
+    below_more (λ k. get_or (set rs i v) k (pos 0) ≡ f k) i (λ k l. let ne : k ≢ i = omega arith in get_or-set_other rs i k v (pos 0) ne ∙ each k l)
+    (get_or-set_same rs i v (pos 0) h ∙ e)

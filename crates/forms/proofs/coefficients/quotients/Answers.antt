@@ -1,0 +1,11 @@
+use Rattle.std.proofs.Common.{arith, rules}
+use Rattle.fixdec.specs.Rounding.{floor}
+use Rattle.std.proofs.lemmas.Int.{to_z-of_z}
+use Rattle.forms.proofs.Lists.{map_is}
+use Rattle.forms.proofs.coefficients.quotients.Goals as goal
+
+pub returns : goal.returns
+returns c =
+    let fits = c.ranges.d in
+    map_is (λ n. floor n c.args.d) c.args.ns.now c.loop-i.out 32 (search rules) c.loop-i.invariant.count
+    (λ k h. simp to_z-of_z at (c.loop-i.invariant.each k (omega arith)))
