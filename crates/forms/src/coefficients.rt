@@ -1,6 +1,6 @@
 //! The 32 coefficients of a form: what the operations compute on them as a whole.
 
-ghost use Rattle.std.specs.Prelude.{◌≡◌, ◌≢◌, ℕ, ℤ, pos, ◌≤◌, ◌+◌, ◌^◌, ◌+ℤ◌, ◌-ℤ◌, ◌*ℤ◌, map, unsigned_abs};
+ghost use Rattle.std.specs.Prelude.{◌≡◌, ◌≢◌, ℕ, ℤ, pos, ◌≤◌, ◌+◌, ◌*◌, ◌^◌, ◌+ℤ◌, ◌-ℤ◌, ◌*ℤ◌, map, unsigned_abs};
 ghost use Rattle.fixdec.specs.Ends.{InCap};
 ghost use Rattle.fixdec.specs.Form as spec;
 ghost use Rattle.fixdec.specs.Rounding.{floor};
@@ -23,7 +23,8 @@ pub fn sizes(ks: &[i128; 32]) -> u128
 pub fn sums(ka: &[i128; 32], kb: &[i128; 32]) -> [i128; 32]
     requires first { spec.sizes ka.now ≤ 10 ^ 18 }
     requires second { spec.sizes kb.now ≤ 10 ^ 18 }
-    ensures { result ≡ spec.combined ◌+ℤ◌ ka.now kb.now }
+    ensures value { result ≡ spec.combined ◌+ℤ◌ ka.now kb.now }
+    ensures bound { spec.sizes result ≤ 2 * 10 ^ 18 }
 {
     let mut out = [0; 32];
     for i in 0..32 {
@@ -36,7 +37,8 @@ pub fn sums(ka: &[i128; 32], kb: &[i128; 32]) -> [i128; 32]
 pub fn differences(ka: &[i128; 32], kb: &[i128; 32]) -> [i128; 32]
     requires first { spec.sizes ka.now ≤ 10 ^ 18 }
     requires second { spec.sizes kb.now ≤ 10 ^ 18 }
-    ensures { result ≡ spec.combined ◌-ℤ◌ ka.now kb.now }
+    ensures value { result ≡ spec.combined ◌-ℤ◌ ka.now kb.now }
+    ensures bound { spec.sizes result ≤ 2 * 10 ^ 18 }
 {
     let mut out = [0; 32];
     for i in 0..32 {
@@ -63,7 +65,8 @@ pub fn mixed(ca: i128, cb: i128, ka: &[i128; 32], kb: &[i128; 32]) -> [i128; 32]
     requires second_centre { InCap cb }
     requires first { spec.sizes ka.now ≤ 10 ^ 18 }
     requires second { spec.sizes kb.now ≤ 10 ^ 18 }
-    ensures { result ≡ spec.combined (λ k l. ca *ℤ l +ℤ cb *ℤ k) ka.now kb.now }
+    ensures value { result ≡ spec.combined (λ k l. ca *ℤ l +ℤ cb *ℤ k) ka.now kb.now }
+    ensures bound { spec.sizes result ≤ 2 * 10 ^ 36 }
 {
     let mut out = [0; 32];
     for i in 0..32 {
@@ -78,7 +81,8 @@ pub fn left_at(unit: i128, q: i128, v: i128, w: i128) -> i128
     requires quotient { InCap q }
     requires first { InCap v }
     requires second { InCap w }
-    ensures { result ≡ v *ℤ unit -ℤ q *ℤ w }
+    ensures value { result ≡ v *ℤ unit -ℤ q *ℤ w }
+    ensures bound { unsigned_abs result ≤ 2 * 10 ^ 36 }
 {
     v * unit - q * w
 }
@@ -89,7 +93,8 @@ pub fn left(unit: i128, q: i128, ka: &[i128; 32], kb: &[i128; 32]) -> [i128; 32]
     requires quotient { InCap q }
     requires first { spec.sizes ka.now ≤ 10 ^ 18 }
     requires second { spec.sizes kb.now ≤ 10 ^ 18 }
-    ensures { result ≡ spec.combined (λ v w. v *ℤ unit -ℤ q *ℤ w) ka.now kb.now }
+    ensures value { result ≡ spec.combined (λ v w. v *ℤ unit -ℤ q *ℤ w) ka.now kb.now }
+    ensures bound { spec.sizes result ≤ 2 * 10 ^ 36 }
 {
     let mut out = [0; 32];
     for i in 0..32 {
@@ -111,7 +116,8 @@ fn multiplied_at(n: i128, k: i128) -> i128
 pub fn multiplied(n: i128, ks: &[i128; 32]) -> [i128; 32]
     requires factor { unsigned_abs n ≤ 10 ^ 15 }
     requires sizes { spec.sizes ks.now ≤ 10 ^ 18 }
-    ensures { result ≡ map (λ k. k *ℤ n) ks.now }
+    ensures value { result ≡ map (λ k. k *ℤ n) ks.now }
+    ensures bound { spec.sizes result ≤ 10 ^ 33 }
 {
     let mut out = [0; 32];
     for i in 0..32 {
@@ -133,7 +139,8 @@ fn quotient(d: i128, n: i128) -> i128
 pub fn quotients(d: i128, ns: &[i128; 32]) -> [i128; 32]
     requires nonzero { d ≢ pos 0 }
     requires bound { spec.sizes ns.now ≤ 10 ^ 38 }
-    ensures { result ≡ spec.quotients d ns.now }
+    ensures value { result ≡ spec.quotients d ns.now }
+    ensures bound { spec.sizes result ≤ spec.sizes ns.now }
 {
     let mut out = [0; 32];
     for i in 0..32 {
