@@ -1,12 +1,13 @@
 //! Forms.
 
-ghost use Rattle.std.specs.Prelude.{◌≡◌, ℕ, ℤ, pos, ◌≤◌, ◌<◌, ◌^◌, ◌+◌, unsigned_abs, slice_index_or};
+ghost use Rattle.std.specs.Prelude.{◌≡◌, ◌≢◌, false, ℕ, ℤ, pos, negsuc, ◌≤◌, ◌<◌, ◌*◌, ◌^◌, ◌+◌, ◌≤ℤ◌, ◌+ℤ◌, ◌*ℤ◌, unsigned_abs, slice_index_or};
+ghost use Rattle.fixdec.specs.Ends.{Ends, InCap};
 ghost use Rattle.fixdec.specs.Form as spec;
 ghost use Rattle.fixdec.specs.Form.{LinearForm};
 ghost use Rattle.forms.specs.Kept.{IsKept};
 
-use crate::coefficients::sizes;
-use fixdec::span::CAP;
+use crate::coefficients::{differences, sizes, sums};
+use fixdec::span::{CAP, Span};
 use fixdec::step::{Step, Why};
 use std::marker::Model;
 
@@ -38,8 +39,9 @@ impl<const S: u32> Form<S> {
     }
 }
 
-// the deviation
-fn dev(coefficients: &[i128; 32], radius: u128) -> u128
+
+// the deviation of a form with these coefficients and this radius
+fn deviation(coefficients: &[i128; 32], radius: u128) -> u128
     requires sizes { spec.sizes coefficients.now ≤ 10 ^ 37 }
     requires radius { radius ≤ 10 ^ 37 }
     ensures { result ≡ spec.sizes coefficients.now + radius }
@@ -54,7 +56,7 @@ fn kept<const S: u32>(centre: i128, coefficients: [i128; 32], radius: u128) -> S
     requires radius { radius ≤ 10 ^ 37 }
     ensures { result ≡ spec.kept (record { centre = centre; coefficients = coefficients; radius = radius }) }
 {
-    if centre.unsigned_abs() + dev(&coefficients, radius) <= CAP.unsigned_abs() {
+    if centre.unsigned_abs() + deviation(&coefficients, radius) <= CAP.unsigned_abs() {
         Step::Val(Form {
             centre,
             coefficients,
@@ -63,4 +65,101 @@ fn kept<const S: u32>(centre: i128, coefficients: [i128; 32], radius: u128) -> S
     } else {
         Step::Lost(Why::Range)
     }
+}
+
+impl<const S: u32> Form<S> {
+    // the deviation
+    fn dev(&self) -> u128
+        ensures value { result ≡ spec.dev self.now }
+        ensures bound { result ≤ 10 ^ 18 }
+    {
+        deviation(&self.coefficients, self.radius)
+    }
+}
+
+/// The least span that holds every member.
+pub(crate) fn hull<const S: u32>(a: &Form<S>) -> Span
+    ensures { result ≡ spec.lin_hull a.now }
+{
+    let dev = a.dev() as i128;
+    Span {
+        lo: a.centre - dev,
+        hi: a.centre + dev,
+    }
+}
+
+/// The sum.
+#[tactic(auto, unfolding(fixdec::specs::Form::lin_plus))]
+pub(crate) fn plus<const S: u32>(a: &Form<S>, b: &Form<S>) -> Step<Form<S>>
+    ensures { result ≡ spec.lin_plus a.now b.now }
+{
+    kept(
+        a.centre + b.centre,
+        sums(&a.coefficients, &b.coefficients),
+        a.radius + b.radius,
+    )
+}
+
+/// The difference.
+#[tactic(auto, unfolding(fixdec::specs::Form::lin_minus))]
+pub(crate) fn minus<const S: u32>(a: &Form<S>, b: &Form<S>) -> Step<Form<S>>
+    ensures { result ≡ spec.lin_minus a.now b.now }
+{
+    kept(
+        a.centre - b.centre,
+        differences(&a.coefficients, &b.coefficients),
+        a.radius + b.radius,
+    )
+}
+
+/// The form with its radius grown by `e`, from 0 to the cap.
+#[tactic(auto, unfolding(fixdec::specs::Form::lin_widen))]
+pub(crate) fn widen<const S: u32>(a: &Form<S>, e: i128) -> Step<Form<S>>
+    requires { InCap e }
+    ensures { result ≡ spec.lin_widen a.now e }
+{
+    kept(a.centre, a.coefficients, a.radius + e.unsigned_abs())
+}
+
+/// The form unchanged: `Empty` exactly where its hull and `s` have no number in common.
+#[tactic(auto, unfolding(fixdec::specs::Form::lin_clip))]
+pub(crate) fn clip<const S: u32>(a: &Form<S>, s: Span) -> Step<Form<S>>
+    ensures { result ≡ spec.lin_clip a.now s }
+{
+    let hull = hull(a);
+    if hull.hi < s.lo || s.hi < hull.lo {
+        Step::Empty
+    } else {
+        Step::Val(*a)
+    }
+}
+
+/// The form of a span.
+#[tactic(auto, unfolding(fixdec::specs::Form::lin_of_span))]
+pub(crate) fn of_span<const S: u32>(s: Span) -> Form<S>
+    ensures { result ≡ spec.lin_of_span s }
+{
+    let centre = (s.lo + s.hi) / 2;
+    Form {
+        centre,
+        coefficients: [0; 32],
+        radius: (s.hi - centre)
+            .unsigned_abs()
+            .max((centre - s.lo).unsigned_abs()),
+    }
+}
+
+/// The form plus a deviation, enclosed by `delta`, times symbol `i`.
+#[tactic(auto, unfolding(fixdec::specs::Form::lin_symbol))]
+pub(crate) fn symbol<const S: u32>(a: &Form<S>, i: usize, delta: Span) -> Step<Form<S>>
+    requires { i < 32 }
+    ensures { result ≡ spec.lin_symbol a.now i delta }
+{
+    let mut coefficients = a.coefficients;
+    coefficients[i] += delta.lo;
+    kept(
+        a.centre,
+        coefficients,
+        a.radius + (delta.hi - delta.lo).unsigned_abs(),
+    )
 }
