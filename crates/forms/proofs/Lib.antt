@@ -1,4 +1,5 @@
 pub mod Floors
 pub mod Lists
+pub mod Middles
 pub mod Sizes
 pub mod Totals

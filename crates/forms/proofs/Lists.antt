@@ -1,9 +1,9 @@
 -- Lists of coefficients, element by element.
 use Rattle.std.proofs.Common.{◌≡◌, ℕ, zero, suc, ◌+◌, ◌*◌, ◌≤◌, ◌<◌, List, [], ◌∷◌, length, get_or, set, map, below_more, arith, refl, ap, sym, ◌∙◌}
-use Rattle.std.specs.Prelude.{ℤ, pos, ◌≢◌, unsigned_abs}
+use Rattle.std.specs.Prelude.{ℤ, pos, ◌≢◌, ◌+ℤ◌, unsigned_abs}
 use Rattle.std.proofs.lemmas.List.{ext_get_or, length-map, get_or-map, get_or-set_same, get_or-set_other}
 use Rattle.std.proofs.lemmas.List.Sums.{get_or-le-sum_by}
-use Rattle.fixdec.specs.Form.{combined, sizes}
+use Rattle.fixdec.specs.Form.{combined, sizes, added_at}
 
 -- a coefficient is at most the sum of the sizes
 pub size_le : (ks : List ℤ) (i : ℕ) → i < length ks → unsigned_abs (get_or ks i (pos 0)) ≤ sizes ks
@@ -42,3 +42,9 @@ pub each_more : (f : ℕ → ℤ) (rs : List ℤ) (i : ℕ) (v : ℤ) → i < le
 each_more f rs i v h each e =
     below_more (λ k. get_or (set rs i v) k (pos 0) ≡ f k) i (λ k l. let ne : k ≢ i = omega arith in get_or-set_other rs i k v (pos 0) ne ∙ each k l)
     (get_or-set_same rs i v (pos 0) h ∙ e)
+
+-- what is added at an index of a list is written there
+pub added_at_is : (i : ℕ) (d : ℤ) (ks : List ℤ) → i < length ks → added_at i d ks ≡ set ks i (get_or ks i (pos 0) +ℤ d)
+added_at_is i d [] h = absurd (omega arith)
+added_at_is zero d (k ∷ ks) h = refl
+added_at_is (suc i) d (k ∷ ks) h = ap (λ (xs : List ℤ). k ∷ xs) (added_at_is i d ks (omega arith))

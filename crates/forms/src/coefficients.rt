@@ -1,6 +1,6 @@
 //! The 32 coefficients of a form: what the operations compute on them as a whole.
 
-ghost use Rattle.std.specs.Prelude.{◌≡◌, ◌≢◌, ℕ, ℤ, pos, ◌≤◌, ◌+◌, ◌*◌, ◌^◌, ◌+ℤ◌, ◌-ℤ◌, ◌*ℤ◌, map, unsigned_abs};
+ghost use Rattle.std.specs.Prelude.{◌≡◌, ◌≢◌, ℕ, ℤ, pos, ◌≤◌, ◌<◌, ◌+◌, ◌*◌, ◌^◌, ◌+ℤ◌, ◌-ℤ◌, ◌*ℤ◌, map, unsigned_abs};
 ghost use Rattle.fixdec.specs.Ends.{InCap};
 ghost use Rattle.fixdec.specs.Form as spec;
 ghost use Rattle.fixdec.specs.Rounding.{floor};
@@ -44,6 +44,19 @@ pub fn differences(ka: &[i128; 32], kb: &[i128; 32]) -> [i128; 32]
     for i in 0..32 {
         out[i] = ka[i] - kb[i];
     }
+    out
+}
+
+/// The coefficients with `d` added to that of symbol `i`.
+pub fn added_at(i: usize, d: i128, ks: &[i128; 32]) -> [i128; 32]
+    requires index { i < 32 }
+    requires number { InCap d }
+    requires sizes { spec.sizes ks.now ≤ 10 ^ 18 }
+    ensures value { result ≡ spec.added_at i d ks.now }
+    ensures bound { spec.sizes result ≤ 2 * 10 ^ 18 }
+{
+    let mut out = *ks;
+    out[i] += d;
     out
 }
 

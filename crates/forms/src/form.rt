@@ -1,12 +1,12 @@
 //! Forms.
 
-ghost use Rattle.std.specs.Prelude.{◌≡◌, ◌≢◌, false, ℕ, ℤ, pos, negsuc, ◌≤◌, ◌<◌, ◌*◌, ◌^◌, ◌+◌, ◌≤ℤ◌, ◌+ℤ◌, ◌*ℤ◌, unsigned_abs, slice_index_or};
+ghost use Rattle.std.specs.Prelude.{◌≡◌, ◌≢◌, false, ℕ, ℤ, pos, negsuc, ◌≤◌, ◌<◌, ◌*◌, ◌^◌, ◌+◌, ◌≤ℤ◌, ◌+ℤ◌, ◌-ℤ◌, ◌*ℤ◌, int_div, max, unsigned_abs, slice_index_or};
 ghost use Rattle.fixdec.specs.Ends.{Ends, InCap};
 ghost use Rattle.fixdec.specs.Form as spec;
 ghost use Rattle.fixdec.specs.Form.{LinearForm};
 ghost use Rattle.forms.specs.Kept.{IsKept};
 
-use crate::coefficients::{differences, sizes, sums};
+use crate::coefficients::{added_at, differences, sizes, sums};
 use fixdec::span::{CAP, Span};
 use fixdec::step::{Step, Why};
 use std::marker::Model;
@@ -134,18 +134,38 @@ pub(crate) fn clip<const S: u32>(a: &Form<S>, s: Span) -> Step<Form<S>>
     }
 }
 
+// the middle of a span, rounded towards 0
+fn middle(s: Span) -> i128
+    ensures value { result ≡ int_div (s.lo +ℤ s.hi) (pos 2) }
+    ensures bound { InCap result }
+{
+    (s.lo + s.hi) / 2
+}
+
+// the greater distance of two ends, in order, from their middle
+fn reach(lo: i128, hi: i128, centre: i128) -> u128
+    requires order { lo ≤ℤ hi }
+    requires low { InCap lo }
+    requires high { InCap hi }
+    requires middle { centre ≡ int_div (lo +ℤ hi) (pos 2) }
+    ensures value { result ≡ max (unsigned_abs (hi -ℤ centre)) (unsigned_abs (centre -ℤ lo)) }
+    ensures bound { unsigned_abs centre + result ≤ 10 ^ 18 }
+{
+    (hi - centre)
+        .unsigned_abs()
+        .max((centre - lo).unsigned_abs())
+}
+
 /// The form of a span.
 #[tactic(auto, unfolding(fixdec::specs::Form::lin_of_span))]
 pub(crate) fn of_span<const S: u32>(s: Span) -> Form<S>
     ensures { result ≡ spec.lin_of_span s }
 {
-    let centre = (s.lo + s.hi) / 2;
+    let centre = middle(s);
     Form {
         centre,
         coefficients: [0; 32],
-        radius: (s.hi - centre)
-            .unsigned_abs()
-            .max((centre - s.lo).unsigned_abs()),
+        radius: reach(s.lo, s.hi, centre),
     }
 }
 
@@ -155,11 +175,9 @@ pub(crate) fn symbol<const S: u32>(a: &Form<S>, i: usize, delta: Span) -> Step<F
     requires { i < 32 }
     ensures { result ≡ spec.lin_symbol a.now i delta }
 {
-    let mut coefficients = a.coefficients;
-    coefficients[i] += delta.lo;
     kept(
         a.centre,
-        coefficients,
+        added_at(i, delta.lo, &a.coefficients),
         a.radius + (delta.hi - delta.lo).unsigned_abs(),
     )
 }
