@@ -1,11 +1,11 @@
 -- How large rounded quotients are, and what they leave.
-use Rattle.std.proofs.Common.{ℕ, zero, suc, ◌≡◌, ◌+◌, ◌*◌, ◌/◌, ◌≤◌, ◌<◌, List, [], ◌∷◌, map, arith, refl}
+use Rattle.std.proofs.Common.{ℕ, zero, suc, ◌≡◌, ◌+◌, ◌*◌, ◌/◌, ◌≤◌, ◌<◌, List, [], ◌∷◌, map, true, false, cond, arith, refl}
 use Rattle.std.specs.Prelude.{ℤ, pos, negsuc, ◌≢◌, ◌*ℤ◌, unsigned_abs}
 use Rattle.std.proofs.lemmas.Int.{ints, unsigned_abs-mul}
 use Rattle.std.proofs.lemmas.List.Sums.{sum_by-cons}
 use native.Mathlib.Nat.{div-mul-le_self, lt-div-mul-add}
 use lib.IntN.{neg_ℤ}
-use Rattle.fixdec.specs.Form.{sizes, quotients}
+use Rattle.fixdec.specs.Form.{sizes, quotients, has_remainder, remainders}
 use Rattle.fixdec.specs.Rounding.{floor}
 
 -- by a divisor above 0
@@ -43,3 +43,11 @@ quotients_size d (n ∷ ns) h =
     let s = floor_size n d h in
     let t = quotients_size d ns h in
     omega arith
+
+-- a number with a remainder counts, and one without doesn't
+module _ (d n : ℤ) (ns : List ℤ) where
+  pub remainders_yes : has_remainder d n ≡ true → remainders d (n ∷ ns) ≡ remainders d ns + 1
+  remainders_yes e = let c = sum_by-cons (λ x. cond (has_remainder d x) 1 0) n ns in rw c (rw e (omega arith))
+
+  pub remainders_no : has_remainder d n ≡ false → remainders d (n ∷ ns) ≡ remainders d ns
+  remainders_no e = let c = sum_by-cons (λ x. cond (has_remainder d x) 1 0) n ns in rw c (rw e (omega arith))

@@ -4,7 +4,7 @@ use Rattle.std.specs.Int.{w128}
 use Rattle.std.proofs.lemmas.Int.{to_z-of_z}
 use Rattle.forms.proofs.Middles.{reach_bound}
 use Rattle.forms.proofs.Sizes.{fits}
-use Rattle.forms.proofs.form.reach.Goals as goal
+use Rattle.forms.proofs.form.spans.reach.Goals as goal
 
 pub returns-clause-value : goal.returns-clause-value
 returns-clause-value c =
