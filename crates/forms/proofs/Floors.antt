@@ -1,9 +1,12 @@
 -- How large rounded quotients are, and what they leave.
-use Rattle.std.proofs.Common.{ℕ, zero, suc, ◌≡◌, ◌+◌, ◌*◌, ◌/◌, ◌≤◌, ◌<◌, List, [], ◌∷◌, map, true, false, cond, arith, refl}
+use Rattle.std.proofs.Common.{ℕ, zero, suc, ◌≡◌, ◌+◌, ◌*◌, ◌/◌, ◌≤◌, ◌<◌, List, [], ◌∷◌, map, true, false, cond, arith, refl, inl, inr}
 use Rattle.std.specs.Prelude.{ℤ, pos, negsuc, ◌≢◌, ◌*ℤ◌, unsigned_abs}
 use Rattle.std.proofs.lemmas.Int.{ints, unsigned_abs-mul}
 use Rattle.std.proofs.lemmas.List.Sums.{sum_by-cons}
-use native.Mathlib.Nat.{div-mul-le_self, lt-div-mul-add}
+use native.Mathlib.Nat.{div-mul-le_self, lt-div-mul-add, mul-le-mul_left, mul-le-mul_right}
+use Rattle.std.specs.Int.{div_ceil}
+use Rattle.std.proofs.lemmas.Bool.{cases_lt}
+use Rattle.std.proofs.lemmas.Grind.{div_ceil_times}
 use lib.IntN.{neg_ℤ}
 use Rattle.fixdec.specs.Form.{sizes, quotients, has_remainder, remainders}
 use Rattle.fixdec.specs.Rounding.{floor}
@@ -51,3 +54,13 @@ module _ (d n : ℤ) (ns : List ℤ) where
 
   pub remainders_no : has_remainder d n ≡ false → remainders d (n ∷ ns) ≡ remainders d ns
   remainders_no e = let c = sum_by-cons (λ x. cond (has_remainder d x) 1 0) n ns in rw c (rw e (omega arith))
+
+-- a quotient rounded up is no larger than its numerator
+pub ceiling_size : (n d : ℕ) → 0 < d → div_ceil n d ≤ n
+ceiling_size n d h = elim (cases_lt n (div_ceil n d)) [
+  | inl l ↦ (let t = (div_ceil_times n d h).1 in
+    let f : suc n * d ≤ div_ceil n d * d = mul-le-mul_right d l in
+    let g : n * 1 ≤ n * d = mul-le-mul_left n h in
+    absurd (omega arith))
+  | inr l ↦ l
+]

@@ -1,3 +1,4 @@
+pub mod Answered
 pub mod Floors
 pub mod Lists
 pub mod Middles

@@ -3,6 +3,7 @@ use Rattle.std.proofs.Common.{ℕ, ◌≡◌, ◌≤◌, ◌^◌, ◌*◌, arith
 use Rattle.std.specs.Prelude.{ℤ, pos, ◌+ℤ◌, ◌-ℤ◌, ◌*ℤ◌, unsigned_abs, FitsSigned}
 use Rattle.std.specs.Int.{w128, cast_signed, cast_unsigned}
 use Rattle.std.proofs.lemmas.Int.{ints, to_z-of_z, fits_signed_from_abs, unsigned_abs-mul}
+use Rattle.std.proofs.Math.Nat.{pow-le-pow_right}
 use native.Mathlib.Nat.{mul-le-mul}
 use Rattle.fixdec.specs.Ends.{InCap}
 
@@ -45,3 +46,7 @@ module _ (a x b y : ℤ) (p : InCap a) (q : InCap x) (r : InCap b) (s : InCap y)
       let f = first in
       let g = second in
       rw (as_is a (omega arith), as_is b (omega arith), as_is x (omega arith), as_is y (omega arith), as_is (a *ℤ x) (omega arith), as_is (b *ℤ y) (omega arith))
+
+-- ten to a power of at most 15
+pub power_size : (k : ℕ) → k ≤ 15 → 10 ^ k ≤ 10 ^ 15
+power_size k h = pow-le-pow_right (omega arith) h

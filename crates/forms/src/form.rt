@@ -11,6 +11,7 @@ use fixdec::span::{CAP, Span};
 use fixdec::step::{Step, Why};
 use std::marker::Model;
 
+mod quotients;
 mod rounded;
 mod spans;
 mod sums;
