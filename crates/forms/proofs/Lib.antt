@@ -2,5 +2,6 @@ pub mod Answered
 pub mod Floors
 pub mod Lists
 pub mod Middles
+pub mod Overs
 pub mod Sizes
 pub mod Totals

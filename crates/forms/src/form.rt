@@ -12,6 +12,7 @@ use fixdec::step::{Step, Why};
 use std::marker::Model;
 
 mod quotients;
+mod roots;
 mod rounded;
 mod spans;
 mod sums;
