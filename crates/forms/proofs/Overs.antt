@@ -1,7 +1,7 @@
 -- What a quotient answers.
 use Rattle.std.proofs.Common.{ℕ, ◌≡◌, ◌∙◌, ◌<◌, ◌≤◌, true, false, refl, arith}
 use Rattle.std.specs.Prelude.{ℤ, pos, ◌+ℤ◌, ◌-ℤ◌, ◌*ℤ◌, ◌≤ℤ◌, ◌<ℤ◌, int_le, unsigned_abs}
-use Rattle.std.proofs.lemmas.Int.{ints}
+use Rattle.std.proofs.lemmas.Int.{ints, by_lt_z}
 use Rattle.std.proofs.lemmas.Bool.Decides.{nat_tests}
 use Rattle.fixdec.specs.Form.{LinearForm, dev, lin_hull, lin_over, quotient_about}
 use Rattle.fixdec.specs.Interval.{unit, fits_cap, holds_zero}
@@ -21,7 +21,10 @@ with_zero : (b : LinearForm) → unsigned_abs b.centre ≤ dev b → holds_zero 
 with_zero b h = rw (le_true (b.centre -ℤ pos (dev b)) (pos 0) (omega (arith, ints)), le_true (pos 0) (b.centre +ℤ pos (dev b)) (omega (arith, ints))) refl
 
 without_zero : (b : LinearForm) → dev b < unsigned_abs b.centre → holds_zero (lin_hull b) ≡ false
-without_zero b h = ?
+without_zero b h =
+    by_lt_z (pos 0) b.centre
+    (λ l. rw (le_false (b.centre -ℤ pos (dev b)) (pos 0) (omega (arith, ints))) refl)
+    (λ l. rw (le_true (b.centre -ℤ pos (dev b)) (pos 0) (omega (arith, ints)), le_false (pos 0) (b.centre +ℤ pos (dev b)) (omega (arith, ints))) refl)
 
 module _ (scale : ℕ) (a b : LinearForm) where
   -- the first quotient
