@@ -1,11 +1,12 @@
 //! Roots of forms.
 
-ghost use Rattle.std.specs.Prelude.{◌≡◌, ℕ, ℤ, pos, ◌≤◌, ◌+◌, ◌-◌, ◌*◌, ◌^◌, ◌<ℤ◌, max, unsigned_abs};
+ghost use Rattle.std.specs.Prelude.{◌≡◌, ℕ, ℤ, pos, ◌≤◌, ◌<◌, ◌+◌, ◌-◌, ◌*◌, ◌^◌, ◌<ℤ◌, ◌-ℤ◌, ◌*ℤ◌, max, unsigned_abs};
+ghost use Rattle.std.specs.Int.{div_ceil};
 ghost use Rattle.fixdec.specs.Ends.{InCap};
 ghost use Rattle.fixdec.specs.Form as spec;
 ghost use Rattle.fixdec.specs.Root.{root, root_up_by};
 
-use super::rounded::{ceiling, divided, unit};
+use super::rounded::{ceiling, divided, product, unit};
 use super::spans::of_span;
 use super::{Form, hull};
 use crate::coefficients::multiplied;
@@ -28,6 +29,7 @@ fn root_down(scale: u32, z: i128) -> u128
     requires scale { scale ≤ 15 }
     requires bound { InCap z }
     ensures value { result ≡ root (unsigned_abs z * 10 ^ scale) }
+    ensures positive { 0 < unsigned_abs z → 0 < result }
     ensures bound { result ≤ 10 ^ 17 }
 {
     isqrt_floor(radicand(scale, z))
@@ -56,6 +58,31 @@ fn reach(scale: u32, s: u128, lo: i128, hi: i128) -> u128
         .max(root_up(scale, hi).saturating_sub(s))
 }
 
+// what a first root s leaves of a number times the unit of the scale
+fn left(unit: i128, s: u128, z: i128) -> i128
+    requires unit { InCap unit }
+    requires root { s ≤ 10 ^ 17 }
+    requires number { InCap z }
+    ensures value { result ≡ z *ℤ unit -ℤ pos (s * s) }
+    ensures bound { unsigned_abs result ≤ 2 * 10 ^ 36 }
+{
+    product(z, unit) - (s * s) as i128
+}
+
+// what a root has beside its centre and its coefficients, about a first root s
+fn beside(unit: i128, s: u128, radius: u128, far: u128) -> u128
+    requires unit { unsigned_abs unit ≤ 10 ^ 15 }
+    requires root { 0 < s }
+    requires bound { s ≤ 10 ^ 17 }
+    requires radius { radius ≤ 10 ^ 18 }
+    requires far { far ≤ 10 ^ 17 }
+    ensures value { result ≡ div_ceil (radius * unsigned_abs unit) (2 * s) + div_ceil (far * far) (2 * s) }
+    ensures bound { result ≤ 10 ^ 36 }
+{
+    let divisor = 2 * s;
+    ceiling(radius * unit.unsigned_abs(), divisor) + ceiling(far * far, divisor)
+}
+
 // the root of a form whose hull lies above 0
 fn root_above<const S: u32>(a: &Form<S>) -> Step<Form<S>>
     requires scale { S ≤ 15 }
@@ -65,15 +92,16 @@ fn root_above<const S: u32>(a: &Form<S>) -> Step<Form<S>>
     let hull = hull(a);
     let unit = unit(S);
     let first = root_down(S, a.centre);
-    let divisor = 2 * first;
     let far = reach(S, first, hull.lo, hull.hi);
-    let beside = ceiling(a.radius * unit.unsigned_abs(), divisor) + ceiling(far * far, divisor);
+    let centre = left(unit, first, a.centre);
+    let coefficients = multiplied(unit, &a.coefficients);
+    let radius = beside(unit, first, a.radius, far);
     divided(
         first as i128,
-        divisor as i128,
-        a.centre * unit - (first * first) as i128,
-        &multiplied(unit, &a.coefficients),
-        beside,
+        (2 * first) as i128,
+        centre,
+        &coefficients,
+        radius,
     )
 }
 
