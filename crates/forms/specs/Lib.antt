@@ -1,0 +1,3 @@
+pub mod Divided
+pub mod FormMembers
+pub mod Swings

@@ -1,0 +1,2 @@
+//! Linear arithmetic that encloses.
+#![tactic(auto)]
