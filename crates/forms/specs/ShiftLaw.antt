@@ -53,16 +53,21 @@ module _ (scale : ℕ) (s : Symbols) (a : LinearForm) (u v : Frac) (p : IsFormMe
       each : (k : ℤ) → whole (k *ℤ pos n) ≈ whole (pos n) *Q whole k
       each k = linear (whole k ∷ whole (pos n) ∷ whole (k *ℤ pos n) ∷ []) _ _ (search reads depth 12) (name (whole_mul k (pos n)) (search reads depth 12) no_fact) tt
 
-  pub lin_shift-encloses : (k : ℤ) → IsShifted k u v → OnVal (lin_shift a k) (λ r. IsFormMember scale r s v)
+  shifted : (k : ℤ) → IsShifted k u v → OnVal (lin_shift a k) (λ r. IsFormMember scale r s v)
   unfolding lin_shift
-  lin_shift-encloses (pos zero) e =
+  shifted (pos zero) e =
       let same : v *Q whole (pos 1) ≈ u = e in
       on_kept (multiplied 1 a) (λ r. IsFormMember scale r s v)
       (times 1 (linear (u ∷ v ∷ []) _ _ (search reads depth 12) (fact (whole (pos 1)) same (search reads depth 12) no_fact) tt))
-  lin_shift-encloses (pos (suc k)) e =
+  shifted (pos (suc k)) e =
       let n = 10 ^ suc k in
       let f = divided (pos n) a.centre a.coefficients (div_ceil a.radius n) in
       cond_both (int_lt (pos 0) (pos (suc k))) (kept f) (kept (multiplied n a)) (λ o. OnVal o (λ r. IsFormMember scale r s v))
       (λ z. on_kept f (λ r. IsFormMember scale r s v) (over n (let h = unit_pos (suc k) in λ d. absurd (omega (arith, ints))) e))
       (λ z. absurd (grind (arith, ints)))
-  lin_shift-encloses (negsuc k) e = on_kept (multiplied (10 ^ suc k) a) (λ r. IsFormMember scale r s v) (times (10 ^ suc k) e)
+  shifted (negsuc k) e = on_kept (multiplied (10 ^ suc k) a) (λ r. IsFormMember scale r s v) (times (10 ^ suc k) e)
+
+-- a member over ten to the power k
+pub lin_shift-encloses : (scale : ℕ) (s : Symbols) (a : LinearForm) (k : ℤ) (u v : Frac) → IsFormMember scale a s u → IsShifted k u v
+    → OnVal (lin_shift a k) (λ r. IsFormMember scale r s v)
+lin_shift-encloses scale s a k u v p e = shifted scale s a u v p k e
