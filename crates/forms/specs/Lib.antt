@@ -1,6 +1,10 @@
+pub mod Corrections
 pub mod Divided
 pub mod FormMembers
+pub mod Leftovers
 pub mod ProductLaw
+pub mod QuotientLaw
+pub mod QuotientParts
 pub mod ShiftLaw
 pub mod SumLaws
 pub mod Swings
