@@ -5,6 +5,8 @@ pub mod Leftovers
 pub mod ProductLaw
 pub mod QuotientLaw
 pub mod QuotientParts
+pub mod RootLaw
+pub mod RootParts
 pub mod ShiftLaw
 pub mod SumLaws
 pub mod Swings
