@@ -1,5 +1,6 @@
 pub mod Corrections
 pub mod Divided
+pub mod FormLaws
 pub mod FormMembers
 pub mod Leftovers
 pub mod ProductLaw
