@@ -11,6 +11,7 @@ use fixdec::span::{CAP, Span};
 use fixdec::step::{Step, Why};
 use std::marker::Model;
 
+mod arith;
 mod quotients;
 mod roots;
 mod rounded;
