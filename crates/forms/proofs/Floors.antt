@@ -59,8 +59,8 @@ module _ (d n : ℤ) (ns : List ℤ) where
 pub ceiling_size : (n d : ℕ) → 0 < d → div_ceil n d ≤ n
 ceiling_size n d h = elim (cases_lt n (div_ceil n d)) [
   | inl l ↦ (let t = (div_ceil_times n d h).1 in
-    let f : suc n * d ≤ div_ceil n d * d = mul-le-mul_right d l in
-    let g : n * 1 ≤ n * d = mul-le-mul_left n h in
-    absurd (omega arith))
+      let f : suc n * d ≤ div_ceil n d * d = mul-le-mul_right d l in
+      let g : n * 1 ≤ n * d = mul-le-mul_left n h in
+      absurd (omega arith))
   | inr l ↦ l
 ]

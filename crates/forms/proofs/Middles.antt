@@ -26,6 +26,7 @@ module _ (lo hi c : ℤ) (order : lo ≤ℤ hi) (low : InCap lo) (high : InCap h
     where
       m : ℤ
       m = int_div (lo +ℤ hi) (pos 2)
+
       by : IsHalf (lo +ℤ hi) m ⊎ IsHalfUp (lo +ℤ hi) m → unsigned_abs m + max (unsigned_abs (hi -ℤ m)) (unsigned_abs (m -ℤ lo)) ≤ 1_000_000_000_000_000_000
       by (inl h) = let a = h.sign in let b = h.low in let d = h.high in omega (arith, ints)
       by (inr h) = let a = h.sign in let b = h.low in let d = h.high in omega (arith, ints)

@@ -35,7 +35,7 @@ pub mixed_total : (ca cb : ℤ) (ks ls : List ℤ) → InCap ca → InCap cb →
     → sizes (combined (λ k l. ca *ℤ l +ℤ cb *ℤ k) ks ls) ≤ 2 * 10 ^ 36
 mixed_total ca cb ks ls p q r s =
     let t = combined_sizes (λ k l. ca *ℤ l +ℤ cb *ℤ k) (unsigned_abs cb) (unsigned_abs ca) ks ls
-        (λ k l. omega (arith, ints, unsigned_abs-mul ca l, unsigned_abs-mul cb k)) in
+    (λ k l. omega (arith, ints, unsigned_abs-mul ca l, unsigned_abs-mul cb k)) in
     let f : unsigned_abs cb * sizes ks ≤ 10 ^ 18 * 10 ^ 18 = mul-le-mul q r in
     let g : unsigned_abs ca * sizes ls ≤ 10 ^ 18 * 10 ^ 18 = mul-le-mul p s in
     omega arith
@@ -45,7 +45,7 @@ pub left_total : (unit q : ℤ) (ks ls : List ℤ) → unsigned_abs unit ≤ 10 
     → sizes (combined (λ v w. v *ℤ unit -ℤ q *ℤ w) ks ls) ≤ 2 * 10 ^ 36
 left_total unit q ks ls u p r s =
     let t = combined_sizes (λ v w. v *ℤ unit -ℤ q *ℤ w) (unsigned_abs unit) (unsigned_abs q) ks ls
-        (λ v w. omega (arith, ints, unsigned_abs-mul v unit, unsigned_abs-mul q w)) in
+    (λ v w. omega (arith, ints, unsigned_abs-mul v unit, unsigned_abs-mul q w)) in
     let f : unsigned_abs unit * sizes ks ≤ 10 ^ 15 * 10 ^ 18 = mul-le-mul u r in
     let g : unsigned_abs q * sizes ls ≤ 10 ^ 18 * 10 ^ 18 = mul-le-mul p s in
     omega arith

@@ -46,7 +46,6 @@ impl<const S: u32> Form<S> {
     }
 }
 
-
 // the deviation of a form with these coefficients and this radius
 fn deviation(coefficients: &[i128; 32], radius: u128) -> u128
     requires sizes { spec.sizes coefficients.now ≤ 10 ^ 37 }
@@ -95,3 +94,5 @@ pub(crate) fn hull<const S: u32>(a: &Form<S>) -> Span
     }
 }
 
+#[cfg(test)]
+mod tests;

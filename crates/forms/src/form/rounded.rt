@@ -12,7 +12,13 @@ use fixdec::step::Step;
 
 /// The form of the centre `n` and the coefficients `ns` over `d`, rounded, its centre moved by `q`
 /// and its radius `radius` and a unit for each remainder.
-pub fn divided<const S: u32>(q: i128, d: i128, n: i128, ns: &[i128; 32], radius: u128) -> Step<Form<S>>
+pub fn divided<const S: u32>(
+    q: i128,
+    d: i128,
+    n: i128,
+    ns: &[i128; 32],
+    radius: u128,
+) -> Step<Form<S>>
     requires nonzero { d ≢ pos 0 }
     requires divisor { unsigned_abs d ≤ 10 ^ 36 }
     requires moved { InCap q }

@@ -24,7 +24,7 @@ loop-i-preserved c =
     record {
       count = search rules;
       each = each_more (λ k. slice_index_or c.args.ka.now k (pos 0) *ℤ cast_signed w128 (cast_unsigned w128 c.args.unit) -ℤ cast_signed w128 (cast_unsigned w128 c.args.q) *ℤ slice_index_or c.args.kb.now k (pos 0))
-      c.loop-i.out i _ (omega arith) c.loop-i.invariant.each (simp to_z-of_z (simp to_z-of_z at c.left_at.ensures.value));
+          c.loop-i.out i _ (omega arith) c.loop-i.invariant.each (simp to_z-of_z (simp to_z-of_z at c.left_at.ensures.value));
     }
 
 pub returns-clause-bound : goal.returns-clause-bound

@@ -42,7 +42,7 @@ module _ (g : Over) (c : After-floor_div-first g) where
 pub returns-then-unsigned_abs-dev : goal.returns-then-unsigned_abs-dev
 returns-then-unsigned_abs-dev g c =
     let divisor : cast_signed w128 (cast_unsigned w128 c.b.inside.centre) ≡ c.args.b.now.centre
-        = as_is c.b.inside.centre (let k = c.b.invariant.fits in omega arith) ∙ ap (λ (f : LinearForm). f.centre) c.b.view_is in
+    = as_is c.b.inside.centre (let k = c.b.invariant.fits in omega arith) ∙ ap (λ (f : LinearForm). f.centre) c.b.view_is in
     let size : c.unsigned_abs.result ≡ unsigned_abs c.args.b.now.centre = c.unsigned_abs.ensures.value ∙ ap unsigned_abs divisor in
     let d = c.dev.ensures.value in
     let h = c.if-unsigned_abs-dev.true in
@@ -52,7 +52,7 @@ pub returns-then-unsigned_abs : goal.returns-then-unsigned_abs
 returns-then-unsigned_abs g c =
     let d = c.before.before.before in
     let size : c.unsigned_abs-3.result ≡ unsigned_abs (first g.row.S c.args.a.now c.args.b.now)
-        = c.unsigned_abs-3.ensures.value ∙ ap unsigned_abs (first_is g d) in
+    = c.unsigned_abs-3.ensures.value ∙ ap unsigned_abs (first_is g d) in
     let cap = c.unsigned_abs-2.ensures.value in
     let h = c.if-unsigned_abs.true in
     over_far g.row.S c.args.a.now c.args.b.now (above g d) (omega arith)

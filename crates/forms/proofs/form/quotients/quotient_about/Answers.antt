@@ -73,14 +73,25 @@ divided-requires g c =
     let divisor = divisor_is g c.before.before.before.before.before.before in
     let above = c.requires.divisor in
     let size = c.b.invariant.fits in
-    let beside = beside_size g c.before.before in
-    (omega arith,
-    ((λ e. absurd (let zero = ap unsigned_abs (sym divisor ∙ e) in omega arith)),
-    (omega (arith, ints),
-    (omega (arith, ints, c.requires.first),
-    (omega (arith, ints, c.left_at-centre.ensures.bound),
-    (c.left-coefficients.ensures.bound,
-    omega arith))))))
+    let beside = beside_size g c.before.before in (
+      omega arith,
+      (
+        (λ e. absurd (let zero = ap unsigned_abs (sym divisor ∙ e) in omega arith)),
+        (
+          omega (arith, ints),
+          (
+            omega (arith, ints, c.requires.first),
+            (
+              omega (arith, ints, c.left_at-centre.ensures.bound),
+              (
+                c.left-coefficients.ensures.bound,
+                omega arith,
+              ),
+            ),
+          ),
+        ),
+      ),
+    )
 
 pub returns : goal.returns
 returns g c =
@@ -89,7 +100,7 @@ returns g c =
     let d = c.before.before.before.before.before.before.before in
     let f = far_is g d in
     let far_size : far g.row.S c.args.q a b ≤ 1_000_000_000_000_000_000
-        = (let h = c.if-unsigned_abs-far.false in let u = c.unsigned_abs.ensures.value in omega arith) in
+    = (let h = c.if-unsigned_abs-far.false in let u = c.unsigned_abs.ensures.value in omega arith) in
     let first = c.ceiling.ensures.value ∙ (λ i. div_ceil (radius_is g d i) (size_is g d i)) in
     let second = c.ceiling-2.ensures.value ∙ (λ i. div_ceil (f i * c.dev-dev.ensures.value i) (size_is g d i)) in
     about_kept g.row.S c.args.q a b far_size

@@ -21,8 +21,8 @@ returns g c =
     let small : unsigned_abs c.quotient-centre.result ≤ unsigned_abs c.args.n = simp to_z-of_z at c.quotient-centre.ensures.bound in
     let value : c.quotient-centre.result ≡ floor c.args.n c.args.d = simp to_z-of_z at c.quotient-centre.ensures.value in
     let centre : cast_signed w128 (cast_unsigned w128 (cast_signed w128 (cast_unsigned w128 c.args.q) +ℤ cast_signed w128 (cast_unsigned w128 c.quotient-centre.result))) ≡ c.args.q +ℤ floor c.args.n c.args.d
-        = rw (← value) (omega (arith, ints, r.moved, r.centre)) in
+    = rw (← value) (omega (arith, ints, r.moved, r.centre)) in
     let coefficients : c.quotients-coefficients.result ≡ quotients c.args.d c.args.ns.now = simp to_z-of_z at c.quotients-coefficients.ensures.value in
-    let count : c.remainders-rest.result ≡ remainders c.args.d (c.args.n ∷ c.args.ns.now) 
-        = c.remainders-rest.ensures.count ∙ (λ i. remainders (to_z-of_z w128 c.args.d divisor i) (to_z-of_z w128 c.args.n number i ∷ c.args.ns.now)) in
+    let count : c.remainders-rest.result ≡ remainders c.args.d (c.args.n ∷ c.args.ns.now)
+    = c.remainders-rest.ensures.count ∙ (λ i. remainders (to_z-of_z w128 c.args.d divisor i) (to_z-of_z w128 c.args.n number i ∷ c.args.ns.now)) in
     c.kept.ensures ∙ (λ i. kept (record { centre = centre i; coefficients = coefficients i; radius = c.args.radius + count i }))

@@ -21,16 +21,16 @@ returns g c =
     let a = c.args.a.now in
     let b = c.args.b.now in
     let ca : cast_signed w128 (cast_unsigned w128 c.a.inside.centre) ≡ a.centre
-        = as_is c.a.inside.centre (let k = c.a.invariant.fits in omega arith) ∙ ap (λ (f : LinearForm). f.centre) c.a.view_is in
+    = as_is c.a.inside.centre (let k = c.a.invariant.fits in omega arith) ∙ ap (λ (f : LinearForm). f.centre) c.a.view_is in
     let cb : cast_signed w128 (cast_unsigned w128 c.b.inside.centre) ≡ b.centre
-        = as_is c.b.inside.centre (let k = c.b.invariant.fits in omega arith) ∙ ap (λ (f : LinearForm). f.centre) c.b.view_is in
+    = as_is c.b.inside.centre (let k = c.b.invariant.fits in omega arith) ∙ ap (λ (f : LinearForm). f.centre) c.b.view_is in
     let divisor : cast_signed w128 (cast_unsigned w128 c.unit-unit.result) ≡ unit g.row.S
-        = to_z-of_z w128 c.unit-unit.result (record { sfits = c.unit-unit.type_inv }) ∙ c.unit-unit.ensures.value in
+    = to_z-of_z w128 c.unit-unit.result (record { sfits = c.unit-unit.type_inv }) ∙ c.unit-unit.ensures.value in
     let centre : cast_signed w128 (cast_unsigned w128 c.product-centre.result) ≡ a.centre *ℤ b.centre
-        = to_z-of_z w128 c.product-centre.result (record { sfits = c.product-centre.type_inv }) ∙ c.product-centre.ensures.value ∙ (λ i. ca i *ℤ cb i) in
+    = to_z-of_z w128 c.product-centre.result (record { sfits = c.product-centre.type_inv }) ∙ c.product-centre.ensures.value ∙ (λ i. ca i *ℤ cb i) in
     let coefficients : c.mixed-coefficients.result ≡ mixed a b
-        = c.mixed-coefficients.ensures.value
-        ∙ (λ i. combined (λ k l. ca i *ℤ l +ℤ cb i *ℤ k) (c.a.view_is i).coefficients (c.b.view_is i).coefficients) in
+    = c.mixed-coefficients.ensures.value
+    ∙ (λ i. combined (λ k l. ca i *ℤ l +ℤ cb i *ℤ k) (c.a.view_is i).coefficients (c.b.view_is i).coefficients) in
     let radius : c.ceiling-radius.result ≡ div_ceil (beside a b) (10 ^ g.row.S)
-        = c.ceiling-radius.ensures.value ∙ (λ i. div_ceil (c.beside.ensures.value i) ((c.unsigned_abs.ensures.value ∙ ap unsigned_abs divisor) i)) in
+    = c.ceiling-radius.ensures.value ∙ (λ i. div_ceil (c.beside.ensures.value i) ((c.unsigned_abs.ensures.value ∙ ap unsigned_abs divisor) i)) in
     times_at g.row.S a b (c.divided.ensures ∙ (λ i. kept (moved (pos 0) (divided (divisor i) (centre i) (coefficients i) (radius i)))))
