@@ -1,5 +1,5 @@
 -- The middle of two numbers, rounded towards 0, and how far from it they are.
-use Rattle.std.proofs.Common.{ℕ, suc, ◌≡◌, ◌+◌, ◌≤◌, max, arith, ◌⊎◌, inl, inr}
+use Rattle.std.proofs.Common.{◌≡◌, ◌+◌, ◌≤◌, max, arith, ◌⊎◌, inl, inr}
 use Rattle.std.specs.Prelude.{ℤ, pos, negsuc, ◌≤ℤ◌, ◌+ℤ◌, ◌-ℤ◌, int_div, unsigned_abs}
 use Rattle.std.proofs.lemmas.Int.{ints}
 use Rattle.fixdec.specs.Ends.{InCap}

@@ -2,7 +2,7 @@
 use Rattle.std.proofs.Common.{ℕ, zero, suc, ◌≡◌, ◌∙◌, ◌<◌, ◌≤◌, ◌*◌, ◌^◌, ap, true, false, refl, arith}
 use Rattle.std.proofs.Math.Nat.{one-le-pow}
 use native.Mathlib.Nat.{mul-le-mul}
-use Rattle.std.specs.Prelude.{ℤ, pos, ◌≤ℤ◌, ◌<ℤ◌, int_le, int_lt}
+use Rattle.std.specs.Prelude.{pos, ◌≤ℤ◌, ◌<ℤ◌, int_le, int_lt}
 use Rattle.std.proofs.lemmas.Int.{ints, by_lt_z}
 use Rattle.fixdec.specs.Ends.{Ends}
 use Rattle.fixdec.specs.Form.{LinearForm, kept, lin_hull, lin_of_span, lin_root, root_above}

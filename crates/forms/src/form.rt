@@ -1,4 +1,5 @@
-//! Forms.
+//! Linear forms. At a scale S the raw number `v` stands for `v / 10^S`, and a symbol is a number
+//! from -1 to 1, the same wherever its number stands.
 
 ghost use Rattle.std.specs.Prelude.{◌≡◌, ◌≢◌, false, ℕ, ℤ, pos, negsuc, ◌≤◌, ◌<◌, ◌*◌, ◌^◌, ◌+◌, ◌≤ℤ◌, ◌+ℤ◌, ◌-ℤ◌, ◌*ℤ◌, int_div, max, unsigned_abs, slice_index_or};
 ghost use Rattle.fixdec.specs.Ends.{Ends, InCap};
@@ -18,7 +19,10 @@ mod rounded;
 mod spans;
 mod sums;
 
-/// A linear form at the scale `S`.
+/// A linear form at the scale `S`, of at most 15: a centre, a coefficient for each of the symbols 0
+/// to 31, and a radius. Its members are the numbers within the radius of the centre plus the sum of
+/// coefficients times symbols. The size of the centre and the deviation, which is the sum of the
+/// coefficients' sizes and the radius, are together at most `CAP`.
 #[derive(Clone, Copy, Debug, PartialEq, Eq)]
 pub struct Form<const S: u32> {
     centre: i128,

@@ -1,4 +1,5 @@
-//! Forms as an arithmetic.
+//! Forms as an arithmetic: what is computed from forms has as members what is computed from their
+//! members under the same symbols, so that deviations of one symbol cancel.
 
 ghost use Rattle.fixdec.specs.Form.{linear_operations};
 ghost use Rattle.fixdec.specs.FormMember.{IsFormMember};
@@ -9,6 +10,9 @@ use enclose::arith::Arith;
 use fixdec::span::Span;
 use fixdec::step::Step;
 
+/// An answer is `Lost(Range)` exactly where the size of its centre and its deviation would pass the
+/// cap together, and in a quotient also where the first quotient of the centres, or the bound on
+/// how far a quotient lies from it, passes the cap.
 impl<const S: u32> Arith for Form<S> {
     const SCALE: u32 = S;
 

@@ -1,8 +1,7 @@
-use Rattle.std.proofs.Common.{◌<◌, ◌≤◌, length, set, ap, arith}
+use Rattle.std.proofs.Common.{◌<◌, length, set, ap, arith}
 use Rattle.std.specs.Prelude.{pos, ◌+ℤ◌, slice_index_or, unsigned_abs}
 use Rattle.std.proofs.lemmas.Int.{ints}
 use Rattle.std.proofs.lemmas.List.Sums.{sum_by-set}
-use Rattle.fixdec.specs.Form.{sizes}
 use Rattle.forms.proofs.Lists.{added_at_is, size_le}
 use Rattle.forms.proofs.coefficients.added_at.Goals as goal
 

@@ -1,6 +1,6 @@
 use Rattle.std.proofs.Common.{arith}
 use Rattle.forms.proofs.Floors.{floor_multiple}
-use Rattle.forms.proofs.Sizes.{fits, as_is}
+use Rattle.forms.proofs.Sizes.{fits}
 use Rattle.std.proofs.lemmas.Int.{to_z-of_z}
 use Rattle.forms.proofs.coefficients.has_remainder.Goals as goal
 

@@ -1,7 +1,7 @@
-use Rattle.std.proofs.Common.{ℕ, ◌≡◌, ◌∙◌, ◌<◌, ◌≤◌, ap, sym, arith}
-use Rattle.std.specs.Prelude.{ℤ, pos, ◌*ℤ◌, unsigned_abs}
+use Rattle.std.proofs.Common.{◌≡◌, ◌∙◌, ◌<◌, ap, arith}
+use Rattle.std.specs.Prelude.{◌*ℤ◌, unsigned_abs}
 use Rattle.std.specs.Int.{w128, cast_signed, cast_unsigned}
-use Rattle.std.proofs.lemmas.Int.{ints, to_z-of_z}
+use Rattle.std.proofs.lemmas.Int.{to_z-of_z}
 use Rattle.fixdec.specs.Form.{LinearForm, dev, quotient_about}
 use Rattle.fixdec.specs.Interval.{unit}
 use Rattle.fixdec.specs.Rounding.{floor}

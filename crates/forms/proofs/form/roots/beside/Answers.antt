@@ -1,5 +1,4 @@
 use Rattle.std.proofs.Common.{◌≤◌, ◌*◌, ◌^◌, arith}
-use Rattle.std.specs.Prelude.{unsigned_abs}
 use native.Mathlib.Nat.{mul-le-mul}
 use Rattle.std.proofs.lemmas.Int.{to_z-of_z}
 use Rattle.forms.proofs.form.roots.beside.Goals as goal

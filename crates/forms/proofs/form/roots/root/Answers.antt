@@ -6,7 +6,7 @@ use Rattle.fixdec.specs.Form.{LinearForm, lin_hull, lin_of_span}
 use Rattle.fixdec.specs.Interval.{iv_root}
 use Rattle.fixdec.specs.Steps.{◌>>=◌}
 use Rattle.fixdec.specs.declared.step.Step.{Step}
-use Rattle.fixdec.specs.declared.step.Step.TheVariants.{Val, Lost}
+use Rattle.fixdec.specs.declared.step.Step.TheVariants.{Val}
 use Rattle.forms.proofs.Roots.{root_of_hull}
 use Rattle.forms.proofs.form.roots.root.Given.{Over}
 use Rattle.forms.proofs.form.roots.root.Goals as goal

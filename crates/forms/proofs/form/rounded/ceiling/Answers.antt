@@ -1,4 +1,3 @@
-use Rattle.std.proofs.Common.{◌∙◌}
 use Rattle.forms.proofs.Floors.{ceiling_size}
 use Rattle.forms.proofs.form.rounded.ceiling.Goals as goal
 

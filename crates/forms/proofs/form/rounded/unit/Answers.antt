@@ -1,4 +1,4 @@
-use Rattle.std.proofs.Common.{◌≤◌, ◌^◌, arith}
+use Rattle.std.proofs.Common.{arith}
 use Rattle.std.proofs.lemmas.Int.{ints}
 use Rattle.forms.proofs.Sizes.{power_size}
 use Rattle.forms.proofs.form.rounded.unit.Goals as goal
