@@ -2,6 +2,7 @@ pub mod Bending
 pub mod BendingRows
 pub mod Catalogue
 pub mod Chain
+pub mod ChainLaws
 pub mod Chains
 pub mod Claims
 pub mod Constants

@@ -7,6 +7,7 @@ pub mod fault;
 pub mod glass;
 pub mod job;
 pub mod launch;
+pub mod laws;
 pub mod name;
 pub mod paraxial;
 pub mod prescription;
