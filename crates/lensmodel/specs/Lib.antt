@@ -25,3 +25,4 @@ pub mod StartRows
 pub mod TextLines
 pub mod TopCall
 pub mod Values
+pub mod Worked

@@ -18,3 +18,4 @@ pub mod setup;
 pub mod status;
 pub mod surface;
 pub mod tolerance;
+pub mod worked;
