@@ -1,6 +1,9 @@
+pub mod Along
 pub mod Axis
 pub mod Boxes
 pub mod Concrete
+pub mod Exchange
 pub mod Fronts
 pub mod Mirrors
+pub mod Rest
 pub mod Slanted

@@ -9,6 +9,7 @@ pub mod Constants
 pub mod Crossing
 pub mod CrossingRows
 pub mod Dispersion
+pub mod Exchange
 pub mod FaultText
 pub mod HitRows
 pub mod IndexRows
