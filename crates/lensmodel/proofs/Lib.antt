@@ -1,9 +1,13 @@
 pub mod Along
 pub mod Axis
 pub mod Boxes
+pub mod ComputedBoxes
+pub mod ComputedRows
 pub mod Concrete
 pub mod Exchange
 pub mod Fronts
 pub mod Mirrors
 pub mod Rest
 pub mod Slanted
+pub mod TriedForms
+pub mod TriedRoots

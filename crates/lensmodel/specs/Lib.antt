@@ -5,6 +5,9 @@ pub mod Chain
 pub mod ChainLaws
 pub mod Chains
 pub mod Claims
+pub mod ComputedBoxes
+pub mod ComputedRows
+pub mod ComputedScales
 pub mod Constants
 pub mod Crossing
 pub mod CrossingRows

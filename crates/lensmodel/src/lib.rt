@@ -2,6 +2,7 @@
 #![tactic(auto)]
 
 pub mod certificate;
+pub mod computed;
 pub mod corner;
 pub mod fault;
 pub mod glass;
