@@ -6,7 +6,7 @@ use Rattle.fixdec.specs.Ends.{Ends}
 use Rattle.fixdec.specs.Form.{linear_operations, lin_of_span, lin_plus, lin_minus, lin_times, lin_over, lin_widen, lin_shift, lin_clip, lin_symbol}
 use Rattle.fixdec.specs.IntervalOperations.{operations}
 use Rattle.fixdec.specs.declared.step.Step.{Step}
-use Rattle.lensmodel.specs.ComputedBoxes.{ThicknessBox, PlateBox, FlatIndex, CrownIndex, boxed, plate_setup, crown_glass}
+use Rattle.lensmodel.specs.ComputedBoxes.{ThicknessBox, PlateBox, FlatIndex, CrownIndex, HeavyIndex, boxed, plate_setup, crown_glass, heavy_glass}
 use Rattle.lensmodel.specs.ComputedRows.{ones, tenths}
 use Rattle.lensmodel.specs.Constants.{residual_units}
 use Rattle.lensmodel.specs.Outcome.{Outcome, outcome_at}
@@ -46,3 +46,7 @@ flat_index = index_by_trying flat_glass (tenths 5) _ refl
 pub crown_index : CrownIndex
 unfolding opened
 crown_index = index_by_trying crown_glass (record { mant = pos 5875618; exp = negsuc 6 }) _ refl
+
+pub heavy_index : HeavyIndex
+unfolding opened
+heavy_index = index_by_trying heavy_glass (tenths 5) _ refl

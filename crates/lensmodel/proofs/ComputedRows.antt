@@ -7,16 +7,18 @@ use Rattle.fixdec.specs.IntervalOperations.{operations}
 use Rattle.fixdec.specs.Operations.{Operations}
 use Rattle.fixdec.specs.Scaled.{dec_floor, dec_ceil, dec_span, dec_shifted}
 use Rattle.lensmodel.specs.BendingRows.{bend_rows, stay_rows}
-use Rattle.lensmodel.specs.ComputedRows.{SlantedPlane, SphereHeight, GlassAxis, MirrorFocus, PastSphere, TotalReflection, OutsideRim, InsideRim, row_in_intervals, ones, tenths, ray_at, ray_sloped, air_sphere_setup, mirror_setup, from_glass_setup, rim_setup, bounded_by}
-use Rattle.lensmodel.specs.ComputedScales.{RimTie, WideBeforeUndecided, VignettedBeforeWide, WideAtFirst, FinerPasses, SphereEdge, GrazingRay, CoarseResidual, FineResidual}
+use Rattle.lensmodel.specs.ComputedRows.{SlantedPlane, SphereHeight, GlassAxis, MirrorFocus, PastSphere, TotalReflection, OutsideRim, InsideRim, FanRay, AimedRay, row_in_intervals, ones, tenths, ray_at, ray_sloped, plane_before, air_sphere_setup, mirror_setup, from_glass_setup, rim_setup, bounded_by}
+use Rattle.lensmodel.specs.ComputedScales.{RimTie, WideBeforeUndecided, VignettedBeforeWide, WideAtFirst, FinerPasses, SphereEdge, GrazingRay, FarImage, FarthestImage, FinestResidual, CoarseResidual, FineResidual}
 use Rattle.lensmodel.specs.CrossingRows.{meet_standard_rows}
 use Rattle.lensmodel.specs.HitRows.{hit_rows}
 use Rattle.lensmodel.specs.IndexRows.{index_rows}
 use Rattle.lensmodel.specs.Outcome.{Outcome, outcome_at, row_of, walked}
 use Rattle.lensmodel.specs.Preparation.{preparation_rows}
 use Rattle.lensmodel.specs.StartRows.{start_rows}
+use Rattle.lensmodel.specs.Values.{zero_decimal}
 use Rattle.lensmodel.specs.Worked.{plane_setup, slanted_ray, sphere_setup, axis_ray}
 use Rattle.lensmodel.specs.declared.launch.Launch.{Launch}
+use Rattle.lensmodel.specs.declared.launch.Launch.TheVariants.{Pupil}
 use Rattle.lensmodel.specs.declared.row.Word.{Word}
 use Rattle.lensmodel.specs.declared.row.Word.TheVariants.{Wide}
 use Rattle.lensmodel.specs.declared.setup.Setup.{Setup}
@@ -35,7 +37,7 @@ word_by_trying : (scale : ℕ) (s : Setup) (ray : Launch) (x : Word)
     → (outcome_at (operations_by tried_root scale) scale s ray).word ≡ x → (outcome_at (operations scale) scale s ray).word ≡ x
 word_by_trying scale s ray x h = subst (λ o. (outcome_at (o scale) scale s ray).word ≡ x) same_operations h
 
-row_by_trying : (s : Setup) (ray : Launch) (x : Outcome) → row_by (operations_by tried_root) s ray ≡ x → row_in_intervals s ray ≡ x
+pub row_by_trying : (s : Setup) (ray : Launch) (x : Outcome) → row_by (operations_by tried_root) s ray ≡ x → row_in_intervals s ray ≡ x
 unfolding row_by
 row_by_trying s ray x h = subst (λ o. row_by o s ray ≡ x) same_operations h
 
@@ -109,3 +111,25 @@ coarse_residual = refl
 
 pub fine_residual : FineResidual
 fine_residual = refl
+
+pub far_image : FarImage
+unfolding opened
+far_image = row_by_trying (plane_before (record { mant = pos 1; exp = pos 7 })) axis_ray _ refl
+
+pub farthest_image : FarthestImage
+unfolding opened
+farthest_image = row_by_trying (plane_before (record { mant = pos 1; exp = pos 30 })) axis_ray _ refl
+
+pub finest_residual : FinestResidual
+unfolding opened
+finest_residual = row_by_trying (record rim_setup { res = 14 }) (ray_at (record { mant = pos 49999999999; exp = negsuc 9 })) _ refl
+
+pub fan_ray : FanRay
+unfolding opened
+fan_ray =
+    by_trying 6 plane_setup (Pupil (tenths 1) (tenths 2) (record { num = zero_decimal; den = 1 }) (record { num = record { mant = negsuc 1; exp = pos 0 }; den = 3 }) (ones 2) (ones 3)) _ refl
+
+pub aimed_ray : AimedRay
+unfolding opened
+aimed_ray =
+    by_trying 6 plane_setup (Pupil (tenths 1) (record { mant = negsuc 1; exp = negsuc 0 }) (record { num = tenths 5; den = 1 }) (record { num = record { mant = pos 25; exp = negsuc 1 }; den = 1 }) (ones 2) (ones 3)) _ refl

@@ -1,7 +1,9 @@
 pub mod Along
 pub mod Axis
 pub mod Boxes
+pub mod ComputedAspheres
 pub mod ComputedBoxes
+pub mod ComputedFolds
 pub mod ComputedRows
 pub mod Concrete
 pub mod Exchange
@@ -9,5 +11,6 @@ pub mod Fronts
 pub mod Mirrors
 pub mod Rest
 pub mod Slanted
+pub mod TriedCells
 pub mod TriedForms
 pub mod TriedRoots

@@ -72,3 +72,16 @@ abbrev pub CrownIndex : Type 0
 CrownIndex =
     medium_row (operations 12) 12 (Of crown_glass) (record { mant = pos 5875618; exp = negsuc 6 }) (residual_units 12 12)
     ≡ Val (span (pos 1516800034498) (pos 1516800034504))
+
+-- a glass with all of Schott's coefficients
+abbrev pub heavy_glass : Glass
+heavy_glass = record flat_glass {
+  c1 = record { mant = pos 1; exp = negsuc 1 };
+  c2 = record { mant = pos 2; exp = negsuc 1 };
+  c3 = record { mant = pos 1; exp = negsuc 2 };
+  c4 = record { mant = negsuc 1; exp = negsuc 3 };
+  c5 = record { mant = pos 3; exp = negsuc 4 };
+}
+
+abbrev pub HeavyIndex : Type 0
+HeavyIndex = medium_row (operations 12) 12 (Of heavy_glass) (tenths 5) (residual_units 12 12) ≡ Val (span (pos 1530810242975) (pos 1530810242977))

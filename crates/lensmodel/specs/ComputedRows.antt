@@ -9,7 +9,7 @@ use Rattle.lensmodel.specs.Values.{zero_decimal, plane}
 use Rattle.lensmodel.specs.Worked.{span, flat_name, flat_glass, far_object, setup_of, plane_setup, slanted_ray, slanted_vertex, slanted_image, sphere_setup, axis_ray}
 use Rattle.lensmodel.specs.declared.glass.Medium.TheVariants.{Air, Of}
 use Rattle.lensmodel.specs.declared.launch.Launch.{Launch}
-use Rattle.lensmodel.specs.declared.launch.Launch.TheVariants.{Plain}
+use Rattle.lensmodel.specs.declared.launch.Launch.TheVariants.{Plain, Pupil}
 use Rattle.lensmodel.specs.declared.row.Place.{Place}
 use Rattle.lensmodel.specs.declared.row.Word.{Word}
 use Rattle.lensmodel.specs.declared.row.Word.TheVariants.{Passes, Vignetted, Outside, Tir, Undecided, Wide, Lost}
@@ -58,6 +58,10 @@ ray_sloped q = Plain zero_decimal zero_decimal zero_decimal q
 -- a sphere of curvature 1/10 in air, and the image 10 behind it
 abbrev pub air_sphere_setup : Setup
 air_sphere_setup = setup_of (far_object ∷ record plane { curv = tenths 1; thick = Some record { mant = pos 1; exp = pos 1 } } ∷ plane ∷ []) (Air ∷ Air ∷ [])
+
+-- a plane in air, and the image that far behind it
+abbrev pub plane_before : Decimal → Setup
+plane_before d = setup_of (far_object ∷ record plane { thick = Some d } ∷ plane ∷ []) (Air ∷ Air ∷ [])
 
 -- a plane out of glass FLAT, and the image 4 behind it
 abbrev pub from_glass_setup : Setup
@@ -125,4 +129,21 @@ InsideRim =
     Gives 6 rim_setup (ray_at (tenths 49)) Passes
     (headed (place (span (pos 24009970) (pos 24010031)) (about 3) (span (pos 4899997) (pos 4900003)) (about 1) (about 4)) (about 1) (about 1) (span (pos 999999) (pos 1000001))
     ∷ place (span (pos 24009862) (pos 24010139)) (about 14) (span (pos 4899986) (pos 4900014)) (about 1) (span (pos 3999988) (pos 4000013))
+    ∷ [])
+
+-- ---- rays by their point in the pupil plane, which is 2 behind the vertex and has the radius 3
+-- the point 2/3 below the axis: x = -0.2 and y = -2.4
+abbrev pub FanRay : Type 0
+FanRay =
+    Gives 6 plane_setup (Pupil (tenths 1) (tenths 2) (record { num = zero_decimal; den = 1 }) (record { num = record { mant = negsuc 1; exp = pos 0 }; den = 3 }) (ones 2) (ones 3)) Passes
+    (headed (place (span (pos 5799974) (pos 5800022)) (span (negsuc 200002) (negsuc 199996)) (span (negsuc 2400003) (negsuc 2399994)) (about 1) (about 4)) (span (pos 97588) (pos 97592)) (span (pos 195178) (pos 195182)) (span (pos 975899) (pos 975901))
+    ∷ place (span (pos 2599928) (pos 2600069)) (span (pos 199982) (pos 200018)) (span (negsuc 1600018) (negsuc 1599979)) (about 1) (span (pos 4098768) (pos 4098793))
+    ∷ [])
+
+-- the point 0.5, 0.25: x = 1.3 and y = 1.15
+abbrev pub AimedRay : Type 0
+AimedRay =
+    Gives 6 plane_setup (Pupil (tenths 1) (record { mant = negsuc 1; exp = negsuc 0 }) (record { num = tenths 5; den = 1 }) (record { num = record { mant = pos 25; exp = negsuc 1 }; den = 1 }) (ones 2) (ones 3)) Passes
+    (headed (place (span (pos 3012485) (pos 3012515)) (span (pos 1299997) (pos 1300003)) (span (pos 1149997) (pos 1150003)) (about 1) (about 4)) (span (pos 97588) (pos 97592)) (span (negsuc 195181) (negsuc 195177)) (span (pos 975899) (pos 975901))
+    ∷ place (span (pos 3012425) (pos 3012575)) (span (pos 1699982) (pos 1700018)) (span (pos 349982) (pos 350018)) (about 1) (span (pos 4098768) (pos 4098793))
     ∷ [])

@@ -5,7 +5,9 @@ pub mod Chain
 pub mod ChainLaws
 pub mod Chains
 pub mod Claims
+pub mod ComputedAspheres
 pub mod ComputedBoxes
+pub mod ComputedFolds
 pub mod ComputedRows
 pub mod ComputedScales
 pub mod Constants

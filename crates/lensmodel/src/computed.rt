@@ -1,9 +1,11 @@
 //! Rows of worked setups, number for number: each function does nothing, and its contract says
 //! what the definitions of the rows give.
 
-ghost use Rattle.lensmodel.specs.ComputedBoxes.{ThicknessBox, PlateBox, FlatIndex, CrownIndex};
-ghost use Rattle.lensmodel.specs.ComputedRows.{SlantedPlane, SphereHeight, GlassAxis, MirrorFocus, PastSphere, TotalReflection, OutsideRim, InsideRim};
-ghost use Rattle.lensmodel.specs.ComputedScales.{RimTie, WideBeforeUndecided, VignettedBeforeWide, WideAtFirst, FinerPasses, SphereEdge, GrazingRay, CoarseResidual, FineResidual};
+ghost use Rattle.lensmodel.specs.ComputedAspheres.{SphericalHeight, BentHeight, PastZone, BowlLost, BowlAsConic};
+ghost use Rattle.lensmodel.specs.ComputedBoxes.{ThicknessBox, PlateBox, FlatIndex, HeavyIndex, CrownIndex};
+ghost use Rattle.lensmodel.specs.ComputedFolds.{FoldedRay, FoldedBox};
+ghost use Rattle.lensmodel.specs.ComputedRows.{SlantedPlane, SphereHeight, GlassAxis, MirrorFocus, PastSphere, TotalReflection, OutsideRim, InsideRim, FanRay, AimedRay};
+ghost use Rattle.lensmodel.specs.ComputedScales.{RimTie, WideBeforeUndecided, VignettedBeforeWide, WideAtFirst, FinerPasses, SphereEdge, GrazingRay, FarImage, FarthestImage, FinestResidual, CoarseResidual, FineResidual};
 
 /// Rays that reach the image: through a plane, through a sphere in air, along the axis of a sphere
 /// of glass, and by a mirror.
@@ -12,13 +14,22 @@ pub fn rays_pass()
     ensures sphere { SphereHeight }
     ensures glass { GlassAxis }
     ensures mirror { MirrorFocus }
-{}
+{
+}
 
 /// Rays that end before the image: past the edge of a sphere, and past the critical angle.
 pub fn rays_end()
     ensures outside { PastSphere }
     ensures reflected { TotalReflection }
-{}
+{
+}
+
+/// Rays by their point in the pupil plane: at a fraction of its radius, and at a decimal.
+pub fn pupil_rays()
+    ensures fan { FanRay }
+    ensures aimed { AimedRay }
+{
+}
 
 /// A ray outside a rim is vignetted, one inside passes, and one that meets the rim itself is
 /// decided at no scale.
@@ -26,7 +37,8 @@ pub fn rims_decide()
     ensures outside { OutsideRim }
     ensures inside { InsideRim }
     ensures tie { RimTie }
-{}
+{
+}
 
 /// The order of the words: vignetted comes before wide, and wide before undecided. A ray that is
 /// wide at the first scale passes at the second.
@@ -35,28 +47,57 @@ pub fn words_in_order()
     ensures wide { WideBeforeUndecided }
     ensures first { WideAtFirst }
     ensures finer { FinerPasses }
-{}
+{
+}
 
-/// Rays that are lost at every scale have the row of the greatest.
-pub fn lost_rays()
+/// A row that is definite at no scale is that of the greatest scale that isn't lost, and where all
+/// are lost that of the greatest.
+pub fn scales_in_order()
+    ensures far { FarImage }
+    ensures farthest { FarthestImage }
     ensures edge { SphereEdge }
     ensures grazing { GrazingRay }
-{}
+{
+}
+
+/// The residual in units of the scales, and a ray that passes by its smallness.
+pub fn residuals()
+    ensures coarse { CoarseResidual }
+    ensures fine { FineResidual }
+    ensures finest { FinestResidual }
+{
+}
+
+/// Even aspheres: one that is a sphere, one that is bent, a ray past the zone, and a bowl whose
+/// steep ray is lost, though it crosses the same bowl as a conic.
+pub fn aspheres()
+    ensures spherical { SphericalHeight }
+    ensures bent { BentHeight }
+    ensures zone { PastZone }
+    ensures bowl { BowlLost }
+    ensures conic { BowlAsConic }
+{
+}
 
 /// Rays through a box, in linear arithmetic.
 pub fn rays_in_box()
     ensures thickness { ThicknessBox }
     ensures index { PlateBox }
-{}
+{
+}
+
+/// A skew ray through even aspheres, conics, glass and mirrors, forwards and backwards: in
+/// intervals, and with a box in linear arithmetic.
+pub fn folded_rays()
+    ensures intervals { FoldedRay }
+    ensures forms { FoldedBox }
+{
+}
 
 /// Indices by both formulas.
 pub fn indices()
-    ensures schott { FlatIndex }
+    ensures flat { FlatIndex }
+    ensures schott { HeavyIndex }
     ensures sellmeier { CrownIndex }
-{}
-
-/// The residual in units of the scales.
-pub fn residuals()
-    ensures coarse { CoarseResidual }
-    ensures fine { FineResidual }
-{}
+{
+}
