@@ -20,7 +20,6 @@ use Rattle.lensmodel.specs.Worked.{plane_setup, slanted_ray, sphere_setup, axis_
 use Rattle.lensmodel.specs.declared.launch.Launch.{Launch}
 use Rattle.lensmodel.specs.declared.launch.Launch.TheVariants.{Pupil}
 use Rattle.lensmodel.specs.declared.row.Word.{Word}
-use Rattle.lensmodel.specs.declared.row.Word.TheVariants.{Wide}
 use Rattle.lensmodel.specs.declared.setup.Setup.{Setup}
 use Rattle.lensmodel.proofs.TriedRoots.{operations_by, tried_root, same_operations}
 

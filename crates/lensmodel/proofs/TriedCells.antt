@@ -143,7 +143,7 @@ asphere_forms_by_trying scale s ray x h =
     fun_ext (λ face. fun_ext (λ ray. fun_ext (λ e. same_hit (linear_operations scale) scale face ray e))) in
     sym (ap (λ hit. outcome_by hit (linear_operations scale) scale s ray) hits ∙ same_outcome (linear_operations scale) scale s ray)
     ∙ subst (λ c. outcome_by (hit_by (c scale) (linear_operations scale) scale) (linear_operations scale) scale s ray ≡ x) same_operations
-      (subst (λ o. outcome_by (hit_by (operations_by tried_root scale) (o scale) scale) (o scale) scale s ray ≡ x) same_linear h)
+    (subst (λ o. outcome_by (hit_by (operations_by tried_root scale) (o scale) scale) (o scale) scale s ray ≡ x) same_linear h)
 
 -- the row of a ray from such outcomes
 abbrev tried_at : Setup → Launch → ℕ → Outcome

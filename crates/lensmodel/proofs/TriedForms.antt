@@ -1,6 +1,6 @@
 -- Linear arithmetic with roots that are tried.
 use Rattle.std.proofs.Common.{◌≡◌, ℕ, ◌+◌, ◌-◌, ◌*◌, ◌^◌, max, ap, ◌∙◌, refl}
-use Rattle.std.specs.Prelude.{ℤ, pos, ◌*ℤ◌, ◌-ℤ◌, map, int_lt, int_le, unsigned_abs, if◌then◌else◌}
+use Rattle.std.specs.Prelude.{pos, ◌*ℤ◌, ◌-ℤ◌, map, int_lt, int_le, unsigned_abs, if◌then◌else◌}
 use Rattle.std.specs.Int.{div_ceil}
 use Rattle.fixdec.specs.Form.{LinearForm, linear_operations, lin_hull, kept, moved, divided, lin_of_span, lin_plus, lin_minus, lin_times, lin_over, lin_root, lin_widen, lin_shift, lin_clip, lin_symbol}
 use Rattle.fixdec.specs.Interval.{unit, iv_root}

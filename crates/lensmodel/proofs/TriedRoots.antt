@@ -2,12 +2,12 @@
 use Rattle.std.proofs.Common.{◌≡◌, ℕ, zero, suc, ◌+◌, ◌*◌, ◌^◌, Bool, true, ◌&&◌, ap, ◌∙◌, refl}
 use Rattle.std.proofs.Math.Path.{fun_ext}
 use Rattle.std.proofs.lemmas.Bool.{cond_both, leb-true, and_parts}
-use Rattle.std.specs.Prelude.{ℤ, pos, cond, nat_le, nat_eq, int_lt, if◌then◌else◌}
+use Rattle.std.specs.Prelude.{pos, cond, nat_le, nat_eq, int_lt, if◌then◌else◌}
 use Rattle.fixdec.specs.Ends.{Ends}
 use Rattle.fixdec.specs.Interval.{ends, positive_part, iv_plus, iv_minus, iv_times, iv_square, iv_over, iv_root, iv_widen, iv_shift, iv_clip}
 use Rattle.fixdec.specs.IntervalOperations.{operations}
 use Rattle.fixdec.specs.Operations.{Operations}
-use Rattle.fixdec.specs.Root.{root, root_up_by, root_is, root_unique}
+use Rattle.fixdec.specs.Root.{root, root_is, root_unique}
 use Rattle.fixdec.specs.declared.step.Step.{Step}
 use Rattle.fixdec.specs.declared.step.Step.TheVariants.{Empty}
 

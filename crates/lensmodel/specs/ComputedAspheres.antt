@@ -63,6 +63,6 @@ abbrev pub BowlAsConic : Type 0
 BowlAsConic =
     row_in_intervals (asphere_setup paraboloid) steep_ray
     ≡ outcome 9 Passes
-      (headed (place (span (pos 249999970) (pos 250000032)) (about 3) (span (pos 499999970) (pos 500000030)) (span (pos 24999996) (pos 25000004)) (span (pos 127475460) (pos 127475516))) (about 1) (span (pos 980580664) (pos 980580686)) (span (pos 196116133) (pos 196116137))
-      ∷ place (span (pos 415140604951) (pos 415140645051)) (about 29) (span (pos 20374999508) (pos 20375000492)) (about 1) (span (pos 20396077802) (pos 20396078336))
-      ∷ [])
+    (headed (place (span (pos 249999970) (pos 250000032)) (about 3) (span (pos 499999970) (pos 500000030)) (span (pos 24999996) (pos 25000004)) (span (pos 127475460) (pos 127475516))) (about 1) (span (pos 980580664) (pos 980580686)) (span (pos 196116133) (pos 196116137))
+    ∷ place (span (pos 415140604951) (pos 415140645051)) (about 29) (span (pos 20374999508) (pos 20375000492)) (about 1) (span (pos 20396077802) (pos 20396078336))
+    ∷ [])

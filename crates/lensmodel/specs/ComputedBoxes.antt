@@ -8,7 +8,7 @@ use Rattle.lensmodel.specs.ComputedRows.{outcome, place, headed, about, ones, te
 use Rattle.lensmodel.specs.Constants.{residual_units}
 use Rattle.lensmodel.specs.Outcome.{outcome_at}
 use Rattle.lensmodel.specs.Preparation.{medium_row}
-use Rattle.lensmodel.specs.Values.{zero_decimal, plane}
+use Rattle.lensmodel.specs.Values.{plane}
 use Rattle.lensmodel.specs.Worked.{span, flat_name, flat_glass, far_object, setup_of, plane_setup, slanted_ray}
 use Rattle.lensmodel.specs.declared.glass.Glass.{Glass}
 use Rattle.lensmodel.specs.declared.glass.Medium.TheVariants.{Air, Of}
@@ -18,7 +18,7 @@ use Rattle.lensmodel.specs.declared.row.Word.{Word}
 use Rattle.lensmodel.specs.declared.row.Word.TheVariants.{Passes}
 use Rattle.lensmodel.specs.declared.setup.Setup.{Setup}
 use Rattle.lensmodel.specs.declared.tolerance.Tol.{Tol}
-use Rattle.lensmodel.specs.declared.tolerance.TolKind.TheVariants.{Curv, Thic, Indx}
+use Rattle.lensmodel.specs.declared.tolerance.TolKind.TheVariants.{Thic, Indx}
 
 -- what a ray gives at a scale, in linear arithmetic
 abbrev pub GivesInForms : ℕ → Setup → Launch → Word → List Place → Type 0

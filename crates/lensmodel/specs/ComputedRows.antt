@@ -3,7 +3,6 @@ use Rattle.std.specs.Prelude.{◌≡◌, ℕ, ℤ, pos, negsuc, neg_ℤ, true, [
 use Rattle.fixdec.specs.Decimal.{Decimal}
 use Rattle.fixdec.specs.Ends.{Ends}
 use Rattle.fixdec.specs.IntervalOperations.{operations}
-use Rattle.fixdec.specs.declared.step.Why.TheVariants.{Zero}
 use Rattle.lensmodel.specs.Outcome.{Outcome, outcome_at, row_of}
 use Rattle.lensmodel.specs.Values.{zero_decimal, plane}
 use Rattle.lensmodel.specs.Worked.{span, flat_name, flat_glass, far_object, setup_of, plane_setup, slanted_ray, slanted_vertex, slanted_image, sphere_setup, axis_ray}
@@ -12,7 +11,7 @@ use Rattle.lensmodel.specs.declared.launch.Launch.{Launch}
 use Rattle.lensmodel.specs.declared.launch.Launch.TheVariants.{Plain, Pupil}
 use Rattle.lensmodel.specs.declared.row.Place.{Place}
 use Rattle.lensmodel.specs.declared.row.Word.{Word}
-use Rattle.lensmodel.specs.declared.row.Word.TheVariants.{Passes, Vignetted, Outside, Tir, Undecided, Wide, Lost}
+use Rattle.lensmodel.specs.declared.row.Word.TheVariants.{Passes, Vignetted, Outside, Tir}
 use Rattle.lensmodel.specs.declared.setup.Setup.{Setup}
 
 -- ---- how outcomes are written

@@ -2,11 +2,10 @@
 use Rattle.std.specs.Prelude.{◌≡◌, pos, negsuc, [], ◌∷◌, List}
 use Rattle.fixdec.specs.IntervalOperations.{operations}
 use Rattle.fixdec.specs.declared.step.Why.TheVariants.{Zero, Range}
-use Rattle.lensmodel.specs.ComputedRows.{Gives, row_in_intervals, outcome, place, headed, about, bounded_by, ones, tenths, ray_at, ray_sloped, plane_before, rim_setup, from_glass_setup}
+use Rattle.lensmodel.specs.ComputedRows.{row_in_intervals, outcome, place, headed, about, bounded_by, ones, tenths, ray_at, ray_sloped, plane_before, rim_setup, from_glass_setup}
 use Rattle.lensmodel.specs.Constants.{residual_units}
 use Rattle.lensmodel.specs.Outcome.{outcome_at}
 use Rattle.lensmodel.specs.Worked.{span, plane_setup, sphere_setup, slanted_ray, axis_ray}
-use Rattle.lensmodel.specs.declared.launch.Launch.TheVariants.{Plain}
 use Rattle.lensmodel.specs.declared.row.Place.{Place}
 use Rattle.lensmodel.specs.declared.row.Word.TheVariants.{Passes, Vignetted, Undecided, Wide, Lost}
 
@@ -73,9 +72,9 @@ abbrev pub FarImage : Type 0
 FarImage =
     row_in_intervals (plane_before (record { mant = pos 1; exp = pos 7 })) axis_ray
     ≡ outcome 9 Wide
-      (headed (place (span (pos 0) (pos 2)) (about 3) (about 3) (about 1) (about 4)) (about 1) (about 1) (span (pos 999999999) (pos 1000000001))
-      ∷ place (span (pos 0) (pos 800002)) (about 20000006) (about 20000006) (about 1) (span (pos 9999999989999992) (pos 10000000010000009))
-      ∷ [])
+    (headed (place (span (pos 0) (pos 2)) (about 3) (about 3) (about 1) (about 4)) (about 1) (about 1) (span (pos 999999999) (pos 1000000001))
+    ∷ place (span (pos 0) (pos 800002)) (about 20000006) (about 20000006) (about 1) (span (pos 9999999989999992) (pos 10000000010000009))
+    ∷ [])
 
 -- a thickness past the cap is lost in the preparation of the image
 abbrev pub FarthestImage : Type 0
@@ -88,6 +87,6 @@ abbrev pub FinestResidual : Type 0
 FinestResidual =
     row_in_intervals (record rim_setup { res = 14 }) (ray_at (record { mant = pos 49999999999; exp = negsuc 9 }))
     ≡ outcome 12 Passes
-      (headed (place (span (pos 24999999998970) (pos 24999999999032)) (about 3) (span (pos 4999999999897) (pos 4999999999903)) (about 1) (about 4)) (about 1) (about 1) (span (pos 999999999999) (pos 1000000000001))
-      ∷ place (span (pos 24999999998860) (pos 24999999999142)) (about 14) (span (pos 4999999999886) (pos 4999999999914)) (about 1) (span (pos 3999999999988) (pos 4000000000013))
-      ∷ [])
+    (headed (place (span (pos 24999999998970) (pos 24999999999032)) (about 3) (span (pos 4999999999897) (pos 4999999999903)) (about 1) (about 4)) (about 1) (about 1) (span (pos 999999999999) (pos 1000000000001))
+    ∷ place (span (pos 24999999998860) (pos 24999999999142)) (about 14) (span (pos 4999999999886) (pos 4999999999914)) (about 1) (span (pos 3999999999988) (pos 4000000000013))
+    ∷ [])

@@ -14,22 +14,19 @@ pub fn rays_pass()
     ensures sphere { SphereHeight }
     ensures glass { GlassAxis }
     ensures mirror { MirrorFocus }
-{
-}
+{}
 
 /// Rays that end before the image: past the edge of a sphere, and past the critical angle.
 pub fn rays_end()
     ensures outside { PastSphere }
     ensures reflected { TotalReflection }
-{
-}
+{}
 
 /// Rays by their point in the pupil plane: at a fraction of its radius, and at a decimal.
 pub fn pupil_rays()
     ensures fan { FanRay }
     ensures aimed { AimedRay }
-{
-}
+{}
 
 /// A ray outside a rim is vignetted, one inside passes, and one that meets the rim itself is
 /// decided at no scale.
@@ -37,8 +34,7 @@ pub fn rims_decide()
     ensures outside { OutsideRim }
     ensures inside { InsideRim }
     ensures tie { RimTie }
-{
-}
+{}
 
 /// The order of the words: vignetted comes before wide, and wide before undecided. A ray that is
 /// wide at the first scale passes at the second.
@@ -47,8 +43,7 @@ pub fn words_in_order()
     ensures wide { WideBeforeUndecided }
     ensures first { WideAtFirst }
     ensures finer { FinerPasses }
-{
-}
+{}
 
 /// A row that is definite at no scale is that of the greatest scale that isn't lost, and where all
 /// are lost that of the greatest.
@@ -57,16 +52,14 @@ pub fn scales_in_order()
     ensures farthest { FarthestImage }
     ensures edge { SphereEdge }
     ensures grazing { GrazingRay }
-{
-}
+{}
 
 /// The residual in units of the scales, and a ray that passes by its smallness.
 pub fn residuals()
     ensures coarse { CoarseResidual }
     ensures fine { FineResidual }
     ensures finest { FinestResidual }
-{
-}
+{}
 
 /// Even aspheres: one that is a sphere, one that is bent, a ray past the zone, and a bowl whose
 /// steep ray is lost, though it crosses the same bowl as a conic.
@@ -76,28 +69,24 @@ pub fn aspheres()
     ensures zone { PastZone }
     ensures bowl { BowlLost }
     ensures conic { BowlAsConic }
-{
-}
+{}
 
 /// Rays through a box, in linear arithmetic.
 pub fn rays_in_box()
     ensures thickness { ThicknessBox }
     ensures index { PlateBox }
-{
-}
+{}
 
 /// A skew ray through even aspheres, conics, glass and mirrors, forwards and backwards: in
 /// intervals, and with a box in linear arithmetic.
 pub fn folded_rays()
     ensures intervals { FoldedRay }
     ensures forms { FoldedBox }
-{
-}
+{}
 
 /// Indices by both formulas.
 pub fn indices()
     ensures flat { FlatIndex }
     ensures schott { HeavyIndex }
     ensures sellmeier { CrownIndex }
-{
-}
+{}
