@@ -28,7 +28,7 @@ unfoldable pub row_by : (ℕ → Operations Ends) → Setup → Launch → Outco
 row_by o s ray = row_of (outcome_at (o 6) 6 s ray) (outcome_at (o 9) 9 s ray) (outcome_at (o 12) 12 s ray) (outcome_at (o 15) 15 s ray)
 
 -- an outcome may be computed with roots that are tried
-by_trying : (scale : ℕ) (s : Setup) (ray : Launch) (x : Outcome)
+pub by_trying : (scale : ℕ) (s : Setup) (ray : Launch) (x : Outcome)
     → outcome_at (operations_by tried_root scale) scale s ray ≡ x → outcome_at (operations scale) scale s ray ≡ x
 by_trying scale s ray x h = subst (λ o. outcome_at (o scale) scale s ray ≡ x) same_operations h
 

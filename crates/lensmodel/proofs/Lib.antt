@@ -3,7 +3,9 @@ pub mod Axis
 pub mod Boxes
 pub mod ComputedAspheres
 pub mod ComputedBoxes
+pub mod ComputedEdges
 pub mod ComputedFolds
+pub mod ComputedForms
 pub mod ComputedRows
 pub mod Concrete
 pub mod Exchange

@@ -7,7 +7,9 @@ pub mod Chains
 pub mod Claims
 pub mod ComputedAspheres
 pub mod ComputedBoxes
+pub mod ComputedEdges
 pub mod ComputedFolds
+pub mod ComputedForms
 pub mod ComputedRows
 pub mod ComputedScales
 pub mod Constants

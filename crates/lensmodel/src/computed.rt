@@ -3,7 +3,9 @@
 
 ghost use Rattle.lensmodel.specs.ComputedAspheres.{SphericalHeight, BentHeight, PastZone, BowlLost, BowlAsConic};
 ghost use Rattle.lensmodel.specs.ComputedBoxes.{ThicknessBox, PlateBox, FlatIndex, HeavyIndex, CrownIndex};
+ghost use Rattle.lensmodel.specs.ComputedEdges.{BoundMet, BoundPassed, ImageTie, ImageRim, EqualGlass, EqualInBox, TolerantBefore, TolerantBehind};
 ghost use Rattle.lensmodel.specs.ComputedFolds.{FoldedRay, FoldedBox};
+ghost use Rattle.lensmodel.specs.ComputedForms.{PlaneInForms, AsphereInForms, OutsideInForms, ReflectedInForms, VignettedInForms, TieInForms};
 ghost use Rattle.lensmodel.specs.ComputedRows.{SlantedPlane, SphereHeight, GlassAxis, MirrorFocus, PastSphere, TotalReflection, OutsideRim, InsideRim, FanRay, AimedRay};
 ghost use Rattle.lensmodel.specs.ComputedScales.{RimTie, WideBeforeUndecided, VignettedBeforeWide, WideAtFirst, FinerPasses, SphereEdge, GrazingRay, FarImage, FarthestImage, FinestResidual, CoarseResidual, FineResidual};
 
@@ -89,4 +91,34 @@ pub fn indices()
     ensures flat { FlatIndex }
     ensures schott { HeavyIndex }
     ensures sellmeier { CrownIndex }
+{}
+
+/// A bound on widths is passed by what is wider, and not by what is as wide.
+pub fn bounds_turn()
+    ensures met { BoundMet }
+    ensures passed { BoundPassed }
+{}
+
+/// A rim at the image: its words name the image.
+pub fn image_rims()
+    ensures tie { ImageTie }
+    ensures rim { ImageRim }
+{}
+
+/// Between equal glasses the heading stays, unless a tolerance stands on one of their indices.
+pub fn equal_glasses()
+    ensures stays { EqualGlass }
+    ensures boxed { EqualInBox }
+    ensures before { TolerantBefore }
+    ensures behind { TolerantBehind }
+{}
+
+/// The words in linear arithmetic.
+pub fn words_in_forms()
+    ensures plane { PlaneInForms }
+    ensures asphere { AsphereInForms }
+    ensures outside { OutsideInForms }
+    ensures reflected { ReflectedInForms }
+    ensures vignetted { VignettedInForms }
+    ensures tie { TieInForms }
 {}
