@@ -1,4 +1,4 @@
--- Whole roots that compute on large numbers: a candidate is found digit by digit and tried, so that it is the root.
+-- Whole roots that compute on large numbers: a candidate is found digit by digit, and tried, so that it is the root.
 use Rattle.std.proofs.Common.{◌≡◌, ℕ, zero, suc, ◌+◌, ◌*◌, ◌^◌, Bool, true, ◌&&◌, ap, ◌∙◌, refl}
 use Rattle.std.proofs.Math.Path.{fun_ext}
 use Rattle.std.proofs.lemmas.Bool.{cond_both, leb-true, and_parts}

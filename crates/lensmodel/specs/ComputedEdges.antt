@@ -1,10 +1,8 @@
 -- Rows where a case of a definition turns: a bound that is just met, a rim at the image, and glass between equal glass.
-use Rattle.std.specs.Prelude.{◌≡◌, ℕ, pos, negsuc, true, [], ◌∷◌, List, Some}
+use Rattle.std.specs.Prelude.{◌≡◌, ℕ, pos, negsuc, true, [], ◌∷◌, Some}
 use Rattle.fixdec.specs.Decimal.{Decimal}
-use Rattle.fixdec.specs.IntervalOperations.{operations}
 use Rattle.lensmodel.specs.ComputedBoxes.{GivesInForms, boxed}
 use Rattle.lensmodel.specs.ComputedRows.{Gives, row_in_intervals, outcome, place, headed, about, ones, tenths}
-use Rattle.lensmodel.specs.Outcome.{outcome_at}
 use Rattle.lensmodel.specs.Values.{plane}
 use Rattle.lensmodel.specs.Worked.{span, flat_name, flat_glass, far_object, setup_of, plane_setup, slanted_ray, slanted_heading, slanted_vertex, slanted_image}
 use Rattle.lensmodel.specs.declared.glass.Medium.TheVariants.{Air, Of}
@@ -33,9 +31,9 @@ abbrev pub ImageTie : Type 0
 ImageTie =
     row_in_intervals (rimmed_image (ones 3)) slanted_ray
     ≡ outcome 15 (Undecided 2 (span (pos 8999999999924184) (pos 9000000000075800)) (span (pos 9000000000000000) (pos 9000000000000000)))
-      (headed (place (span (pos 0) (pos 2)) (about 1002) (about 2127) (about 500) (about 2876)) (about 1000) (span (pos 599999999998699) (pos 600000000001300)) (span (pos 799999999999599) (pos 800000000000400))
-      ∷ place (span (pos 8999999999924184) (pos 9000000000075800)) (about 7008) (span (pos 2999999999987364) (pos 3000000000012633)) (about 500) (span (pos 4999999999991124) (pos 5000000000008883))
-      ∷ [])
+    (headed (place (span (pos 0) (pos 2)) (about 1002) (about 2127) (about 500) (about 2876)) (about 1000) (span (pos 599999999998699) (pos 600000000001300)) (span (pos 799999999999599) (pos 800000000000400))
+    ∷ place (span (pos 8999999999924184) (pos 9000000000075800)) (about 7008) (span (pos 2999999999987364) (pos 3000000000012633)) (about 500) (span (pos 4999999999991124) (pos 5000000000008883))
+    ∷ [])
 
 -- and one of 2.9 stops it there
 abbrev pub ImageRim : Type 0

@@ -49,6 +49,6 @@ abbrev pub TieInForms : Type 0
 TieInForms =
     row_in_forms (rigid rim_setup) (ray_at (ones 5))
     ≡ outcome 15 (Undecided 1 (span (pos 24999999999989978) (pos 25000000000010022)) (span (pos 25000000000000000) (pos 25000000000000000)))
-      (headed (place (span (pos 24999999999989978) (pos 25000000000010022)) (about 1002) (span (pos 4999999999998998) (pos 5000000000001002)) (about 500) (about 2501)) (about 1000) (about 1000) (span (pos 999999999999499) (pos 1000000000000501))
-      ∷ place (span (pos 24999999999939918) (pos 25000000000060082)) (about 6008) (span (pos 4999999999993992) (pos 5000000000006008)) (about 500) (span (pos 3999999999992494) (pos 4000000000007506))
-      ∷ [])
+    (headed (place (span (pos 24999999999989978) (pos 25000000000010022)) (about 1002) (span (pos 4999999999998998) (pos 5000000000001002)) (about 500) (about 2501)) (about 1000) (about 1000) (span (pos 999999999999499) (pos 1000000000000501))
+    ∷ place (span (pos 24999999999939918) (pos 25000000000060082)) (about 6008) (span (pos 4999999999993992) (pos 5000000000006008)) (about 500) (span (pos 3999999999992494) (pos 4000000000007506))
+    ∷ [])
