@@ -3,7 +3,7 @@ use Rattle.std.proofs.Common.{ℕ, refl}
 use Rattle.fixdec.specs.Interval.{iv_size}
 use Rattle.fixdec.specs.IntervalOperations.{operations}
 use Rattle.fixdec.specs.Zone.{zone, norm, least_power}
-use Rattle.lensmodel.specs.ComputedAspheres.{SphericalHeight, BentHeight, PastZone, BowlLost, BowlAsConic, spherical, bent, bowl, paraboloid, steep_ray, asphere_setup}
+use Rattle.lensmodel.specs.ComputedAspheres.{SphericalHeight, BentHeight, PastZone, BowlLost, BowlRoot, BowlAsConic, spherical, bent, bowl, paraboloid, steep_ray, asphere_setup}
 use Rattle.lensmodel.specs.ComputedRows.{ones, ray_at}
 use Rattle.lensmodel.specs.SagRows.{sag_rows}
 use Rattle.lensmodel.specs.SlopeRounds.{round_rows}
@@ -34,3 +34,7 @@ bowl_lost = asphere_row_by_trying (asphere_setup bowl) steep_ray _ refl
 pub bowl_as_conic : BowlAsConic
 unfolding opened
 bowl_as_conic = row_by_trying (asphere_setup paraboloid) steep_ray _ refl
+
+pub bowl_root : BowlRoot
+unfolding opened_aspheres
+bowl_root = asphere_by_trying 12 (asphere_setup bowl) steep_ray _ refl

@@ -1,7 +1,7 @@
 -- Words in linear arithmetic, by computing.
 use Rattle.std.proofs.Common.{refl}
 use Rattle.lensmodel.specs.ComputedAspheres.{asphere_setup, bent}
-use Rattle.lensmodel.specs.ComputedForms.{PlaneInForms, AsphereInForms, OutsideInForms, ReflectedInForms, VignettedInForms, TieInForms, rigid}
+use Rattle.lensmodel.specs.ComputedForms.{PlaneInForms, AsphereInForms, OutsideInForms, ReflectedInForms, VignettedInForms, TieInForms, FormDifference, FormQuotient, FormProduct, rigid}
 use Rattle.lensmodel.specs.ComputedRows.{ones, tenths, ray_at, ray_sloped, rim_setup, from_glass_setup}
 use Rattle.lensmodel.specs.Worked.{plane_setup, sphere_setup, slanted_ray}
 use Rattle.lensmodel.proofs.ComputedAspheres.{opened_aspheres}
@@ -31,3 +31,15 @@ vignetted_in_forms = forms_by_trying 6 (rigid rim_setup) (ray_at (tenths 51)) _ 
 pub tie_in_forms : TieInForms
 unfolding opened_forms
 tie_in_forms = form_row_by_trying (rigid rim_setup) (ray_at (ones 5)) _ refl
+
+pub form_difference : FormDifference
+unfolding opened_forms
+form_difference = refl
+
+pub form_quotient : FormQuotient
+unfolding opened_forms
+form_quotient = refl
+
+pub form_product : FormProduct
+unfolding opened_forms
+form_product = refl

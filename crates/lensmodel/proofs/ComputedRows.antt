@@ -8,7 +8,7 @@ use Rattle.fixdec.specs.Operations.{Operations}
 use Rattle.fixdec.specs.Scaled.{dec_floor, dec_ceil, dec_span, dec_shifted}
 use Rattle.lensmodel.specs.BendingRows.{bend_rows, stay_rows}
 use Rattle.lensmodel.specs.ComputedRows.{SlantedPlane, SphereHeight, GlassAxis, MirrorFocus, PastSphere, TotalReflection, OutsideRim, InsideRim, FanRay, AimedRay, row_in_intervals, ones, tenths, ray_at, ray_sloped, plane_before, air_sphere_setup, mirror_setup, from_glass_setup, rim_setup, bounded_by}
-use Rattle.lensmodel.specs.ComputedScales.{RimTie, WideBeforeUndecided, VignettedBeforeWide, WideAtFirst, FinerPasses, SphereEdge, GrazingRay, FarImage, FarthestImage, FinestResidual, CoarseResidual, FineResidual}
+use Rattle.lensmodel.specs.ComputedScales.{RimTie, WideBeforeUndecided, VignettedBeforeWide, WideAtFirst, FinerPasses, SphereEdge, GrazingRay, FarImage, FarthestImage, FinestResidual, LessFarImage, FartherImage, FinestPasses, CoarseResidual, FineResidual}
 use Rattle.lensmodel.specs.CrossingRows.{meet_standard_rows}
 use Rattle.lensmodel.specs.HitRows.{hit_rows}
 use Rattle.lensmodel.specs.IndexRows.{index_rows}
@@ -132,3 +132,15 @@ pub aimed_ray : AimedRay
 unfolding opened
 aimed_ray =
     by_trying 6 plane_setup (Pupil (tenths 1) (record { mant = negsuc 1; exp = negsuc 0 }) (record { num = tenths 5; den = 1 }) (record { num = record { mant = pos 25; exp = negsuc 1 }; den = 1 }) (ones 2) (ones 3)) _ refl
+
+pub less_far_image : LessFarImage
+unfolding opened
+less_far_image = row_by_trying (bounded_by (negsuc 11) (plane_before (record { mant = pos 1; exp = pos 5 }))) axis_ray _ refl
+
+pub farther_image : FartherImage
+unfolding opened
+farther_image = row_by_trying (plane_before (record { mant = pos 1; exp = pos 11 })) axis_ray _ refl
+
+pub finest_passes : FinestPasses
+unfolding opened
+finest_passes = row_by_trying (record plane_setup { width = record { mant = pos 2; exp = negsuc 9 } }) slanted_ray _ refl

@@ -1,6 +1,6 @@
 -- Rows of worked even aspheres in interval arithmetic, number for number.
 use Rattle.std.specs.Prelude.{◌≡◌, pos, negsuc, [], ◌∷◌, Some}
-use Rattle.fixdec.specs.declared.step.Why.TheVariants.{Range}
+use Rattle.fixdec.specs.declared.step.Why.TheVariants.{Root, Range}
 use Rattle.lensmodel.specs.ComputedRows.{Gives, row_in_intervals, outcome, place, headed, about, ones, tenths, ray_at}
 use Rattle.lensmodel.specs.Values.{zero_decimal, plane}
 use Rattle.lensmodel.specs.Worked.{span, far_object, setup_of}
@@ -66,3 +66,7 @@ BowlAsConic =
     (headed (place (span (pos 249999970) (pos 250000032)) (about 3) (span (pos 499999970) (pos 500000030)) (span (pos 24999996) (pos 25000004)) (span (pos 127475460) (pos 127475516))) (about 1) (span (pos 980580664) (pos 980580686)) (span (pos 196116133) (pos 196116137))
     ∷ place (span (pos 415140604951) (pos 415140645051)) (about 29) (span (pos 20374999508) (pos 20375000492)) (about 1) (span (pos 20396077802) (pos 20396078336))
     ∷ [])
+
+-- at scale 12 its squares are within the cap, and no slope round tells the two crossings apart
+abbrev pub BowlRoot : Type 0
+BowlRoot = Gives 12 (asphere_setup bowl) steep_ray (Lost 1 Root) []

@@ -1,6 +1,7 @@
 -- The words in linear arithmetic: rows of worked setups with a box whose one tolerance is 0.
-use Rattle.std.specs.Prelude.{◌≡◌, pos, [], ◌∷◌}
-use Rattle.fixdec.specs.Form.{linear_operations}
+use Rattle.std.specs.Prelude.{◌≡◌, ℤ, pos, List, [], ◌∷◌, replicate}
+use Rattle.fixdec.specs.Form.{LinearForm, linear_operations, lin_minus, lin_times, lin_over}
+use Rattle.fixdec.specs.declared.step.Step.TheVariants.{Val}
 use Rattle.lensmodel.specs.ComputedAspheres.{asphere_setup, bent}
 use Rattle.lensmodel.specs.ComputedBoxes.{GivesInForms, boxed}
 use Rattle.lensmodel.specs.ComputedRows.{outcome, place, headed, about, ones, tenths, ray_at, ray_sloped, rim_setup, from_glass_setup}
@@ -52,3 +53,20 @@ TieInForms =
     (headed (place (span (pos 24999999999989978) (pos 25000000000010022)) (about 1002) (span (pos 4999999999998998) (pos 5000000000001002)) (about 500) (about 2501)) (about 1000) (about 1000) (span (pos 999999999999499) (pos 1000000000000501))
     ∷ place (span (pos 24999999999939918) (pos 25000000000060082)) (about 6008) (span (pos 4999999999993992) (pos 5000000000006008)) (about 500) (span (pos 3999999999992494) (pos 4000000000007506))
     ∷ [])
+
+-- ---- linear arithmetic at scale 6: the form 2 + s0/10, less itself, over itself and times itself
+-- a first coefficient, and 0 for the other symbols
+abbrev pub first_symbol : ℤ → List ℤ
+first_symbol k = k ∷ replicate 31 (pos 0)
+
+abbrev pub two_and_symbol : LinearForm
+two_and_symbol = record { centre = pos 2000000; coefficients = first_symbol (pos 100000); radius = 0 }
+
+abbrev pub FormDifference : Type 0
+FormDifference = lin_minus two_and_symbol two_and_symbol ≡ Val (record { centre = pos 0; coefficients = first_symbol (pos 0); radius = 0 })
+
+abbrev pub FormQuotient : Type 0
+FormQuotient = lin_over 6 two_and_symbol two_and_symbol ≡ Val (record { centre = pos 1000000; coefficients = first_symbol (pos 0); radius = 0 })
+
+abbrev pub FormProduct : Type 0
+FormProduct = lin_times 6 two_and_symbol two_and_symbol ≡ Val (record { centre = pos 4000000; coefficients = first_symbol (pos 400000); radius = 10000 })

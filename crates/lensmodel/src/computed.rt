@@ -1,13 +1,13 @@
 //! Rows of worked setups, number for number: each function does nothing, and its contract says
 //! what the definitions of the rows give.
 
-ghost use Rattle.lensmodel.specs.ComputedAspheres.{SphericalHeight, BentHeight, PastZone, BowlLost, BowlAsConic};
+ghost use Rattle.lensmodel.specs.ComputedAspheres.{SphericalHeight, BentHeight, PastZone, BowlLost, BowlRoot, BowlAsConic};
 ghost use Rattle.lensmodel.specs.ComputedBoxes.{ThicknessBox, PlateBox, FlatIndex, HeavyIndex, CrownIndex};
 ghost use Rattle.lensmodel.specs.ComputedEdges.{BoundMet, BoundPassed, ImageTie, ImageRim, EqualGlass, EqualInBox, TolerantBefore, TolerantBehind};
 ghost use Rattle.lensmodel.specs.ComputedFolds.{FoldedRay, FoldedBox};
-ghost use Rattle.lensmodel.specs.ComputedForms.{PlaneInForms, AsphereInForms, OutsideInForms, ReflectedInForms, VignettedInForms, TieInForms};
+ghost use Rattle.lensmodel.specs.ComputedForms.{PlaneInForms, AsphereInForms, OutsideInForms, ReflectedInForms, VignettedInForms, TieInForms, FormDifference, FormQuotient, FormProduct};
 ghost use Rattle.lensmodel.specs.ComputedRows.{SlantedPlane, SphereHeight, GlassAxis, MirrorFocus, PastSphere, TotalReflection, OutsideRim, InsideRim, FanRay, AimedRay};
-ghost use Rattle.lensmodel.specs.ComputedScales.{RimTie, WideBeforeUndecided, VignettedBeforeWide, WideAtFirst, FinerPasses, SphereEdge, GrazingRay, FarImage, FarthestImage, FinestResidual, CoarseResidual, FineResidual};
+ghost use Rattle.lensmodel.specs.ComputedScales.{RimTie, WideBeforeUndecided, VignettedBeforeWide, WideAtFirst, FinerPasses, SphereEdge, GrazingRay, FarImage, FarthestImage, FinestResidual, LessFarImage, FartherImage, FinestPasses, CoarseResidual, FineResidual};
 
 /// Rays that reach the image: through a plane, through a sphere in air, along the axis of a sphere
 /// of glass, and by a mirror.
@@ -47,10 +47,13 @@ pub fn words_in_order()
     ensures finer { FinerPasses }
 {}
 
-/// A row that is definite at no scale is that of the greatest scale that isn't lost, and where all
-/// are lost that of the greatest.
+/// A row is that of the first scale where it is definite, else of the greatest scale that isn't
+/// lost, and where all are lost of the greatest.
 pub fn scales_in_order()
-    ensures far { FarImage }
+    ensures first_alone { FartherImage }
+    ensures up_to_second { FarImage }
+    ensures up_to_third { LessFarImage }
+    ensures last_alone { FinestPasses }
     ensures farthest { FarthestImage }
     ensures edge { SphereEdge }
     ensures grazing { GrazingRay }
@@ -70,6 +73,7 @@ pub fn aspheres()
     ensures bent { BentHeight }
     ensures zone { PastZone }
     ensures bowl { BowlLost }
+    ensures root { BowlRoot }
     ensures conic { BowlAsConic }
 {}
 
@@ -111,6 +115,13 @@ pub fn equal_glasses()
     ensures boxed { EqualInBox }
     ensures before { TolerantBefore }
     ensures behind { TolerantBehind }
+{}
+
+/// Linear arithmetic of one form: the symbol leaves its difference and its quotient.
+pub fn form_values()
+    ensures difference { FormDifference }
+    ensures quotient { FormQuotient }
+    ensures product { FormProduct }
 {}
 
 /// The words in linear arithmetic.

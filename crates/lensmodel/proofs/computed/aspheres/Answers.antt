@@ -1,4 +1,4 @@
-use Rattle.lensmodel.proofs.ComputedAspheres.{spherical_height, bent_height, past_zone, bowl_lost, bowl_as_conic}
+use Rattle.lensmodel.proofs.ComputedAspheres.{spherical_height, bent_height, past_zone, bowl_lost, bowl_root, bowl_as_conic}
 use Rattle.lensmodel.proofs.computed.aspheres.Goals as goal
 
 pub returns-clause-spherical : goal.returns-clause-spherical
@@ -12,6 +12,9 @@ returns-clause-zone c = past_zone
 
 pub returns-clause-bowl : goal.returns-clause-bowl
 returns-clause-bowl c = bowl_lost
+
+pub returns-clause-root : goal.returns-clause-root
+returns-clause-root c = bowl_root
 
 pub returns-clause-conic : goal.returns-clause-conic
 returns-clause-conic c = bowl_as_conic
