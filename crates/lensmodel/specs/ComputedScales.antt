@@ -96,23 +96,23 @@ abbrev pub LessFarImage : Type 0
 LessFarImage =
     row_in_intervals (bounded_by (negsuc 11) (plane_before (record { mant = pos 1; exp = pos 5 }))) axis_ray
     ≡ outcome 12 Wide
-      (headed (place (span (pos 0) (pos 2)) (about 3) (about 3) (about 1) (about 4)) (about 1) (about 1) (span (pos 999999999999) (pos 1000000000001))
-      ∷ place (span (pos 0) (pos 2)) (about 200006) (about 200006) (about 1) (span (pos 99999999999899992) (pos 100000000000100009))
-      ∷ [])
+    (headed (place (span (pos 0) (pos 2)) (about 3) (about 3) (about 1) (about 4)) (about 1) (about 1) (span (pos 999999999999) (pos 1000000000001))
+    ∷ place (span (pos 0) (pos 2)) (about 200006) (about 200006) (about 1) (span (pos 99999999999899992) (pos 100000000000100009))
+    ∷ [])
 
 abbrev pub FartherImage : Type 0
 FartherImage =
     row_in_intervals (plane_before (record { mant = pos 1; exp = pos 11 })) axis_ray
     ≡ outcome 6 Wide
-      (headed (place (span (pos 0) (pos 2)) (about 3) (about 3) (about 1) (about 4)) (about 1) (about 1) (span (pos 999999) (pos 1000001))
-      ∷ place (span (pos 0) (pos 80000000004800002)) (about 200000000006) (about 200000000006) (about 1) (span (pos 99999900000099991) (pos 100000100000100009))
-      ∷ [])
+    (headed (place (span (pos 0) (pos 2)) (about 3) (about 3) (about 1) (about 4)) (about 1) (about 1) (span (pos 999999) (pos 1000001))
+    ∷ place (span (pos 0) (pos 80000000004800002)) (about 200000000006) (about 200000000006) (about 1) (span (pos 99999900000099991) (pos 100000100000100009))
+    ∷ [])
 
 -- the slanted ray under the bound 2 10^-10 passes at scale 15 alone
 abbrev pub FinestPasses : Type 0
 FinestPasses =
     row_in_intervals (record plane_setup { width = record { mant = pos 2; exp = negsuc 9 } }) slanted_ray
     ≡ outcome 15 Passes
-      (headed (place (span (pos 0) (pos 2)) (about 1002) (about 2127) (about 500) (about 2876)) (about 1000) (span (pos 599999999998699) (pos 600000000001300)) (span (pos 799999999999599) (pos 800000000000400))
-      ∷ place (span (pos 8999999999924184) (pos 9000000000075800)) (about 7008) (span (pos 2999999999987364) (pos 3000000000012633)) (about 500) (span (pos 4999999999991124) (pos 5000000000008883))
-      ∷ [])
+    (headed (place (span (pos 0) (pos 2)) (about 1002) (about 2127) (about 500) (about 2876)) (about 1000) (span (pos 599999999998699) (pos 600000000001300)) (span (pos 799999999999599) (pos 800000000000400))
+    ∷ place (span (pos 8999999999924184) (pos 9000000000075800)) (about 7008) (span (pos 2999999999987364) (pos 3000000000012633)) (about 500) (span (pos 4999999999991124) (pos 5000000000008883))
+    ∷ [])
