@@ -2,12 +2,21 @@ pub mod Bending
 pub mod BendingRows
 pub mod Catalogue
 pub mod Chain
+pub mod ChainLaws
 pub mod Chains
 pub mod Claims
+pub mod ComputedAspheres
+pub mod ComputedBoxes
+pub mod ComputedEdges
+pub mod ComputedFolds
+pub mod ComputedForms
+pub mod ComputedRows
+pub mod ComputedScales
 pub mod Constants
 pub mod Crossing
 pub mod CrossingRows
 pub mod Dispersion
+pub mod Exchange
 pub mod FaultText
 pub mod HitRows
 pub mod IndexMeaning
@@ -26,3 +35,4 @@ pub mod StartRows
 pub mod TextLines
 pub mod TopCall
 pub mod Values
+pub mod Worked
