@@ -2,12 +2,14 @@
 #![tactic(auto)]
 
 pub mod certificate;
+pub mod computed;
 pub mod corner;
 pub mod examples;
 pub mod fault;
 pub mod glass;
 pub mod job;
 pub mod launch;
+pub mod laws;
 pub mod name;
 pub mod paraxial;
 pub mod prescription;
@@ -18,3 +20,4 @@ pub mod setup;
 pub mod status;
 pub mod surface;
 pub mod tolerance;
+pub mod worked;

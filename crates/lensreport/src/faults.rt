@@ -68,7 +68,7 @@ fn push_line(line: u32, out: &mut Line)
     ensures len { array_string_len out.new ≤ array_string_len out.old + 70 }
 {
     out.push_str(" line ");
-    push_number(line, out);
+    push_number(u64::from(line), out);
 }
 
 /// Appends ` word n`.
@@ -78,7 +78,7 @@ fn push_word(word: u32, out: &mut Line)
     ensures len { array_string_len out.new ≤ array_string_len out.old + 70 }
 {
     out.push_str(" word ");
-    push_number(word, out);
+    push_number(u64::from(word), out);
 }
 
 /// Appends ` surface n`.
@@ -88,7 +88,7 @@ fn push_surface(surface: u32, out: &mut Line)
     ensures len { array_string_len out.new ≤ array_string_len out.old + 73 }
 {
     out.push_str(" surface ");
-    push_number(surface, out);
+    push_number(u64::from(surface), out);
 }
 
 /// Appends a cause of at most 20 bytes, and its line.

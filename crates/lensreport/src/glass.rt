@@ -9,12 +9,12 @@ use fixdec::dec::Dec;
 use lensmodel::glass::Glass;
 
 /// Writes `glasses n`, the number of glasses. The line is empty before, here and below.
-pub fn print_glasses(count: u32, out: &mut Line)
+pub fn print_glasses(count: usize, out: &mut Line)
     requires { out.old.bytes ≡ [] }
     ensures { out.new.bytes ≡ glasses_line count }
 {
     out.push_str("glasses ");
-    push_number(count, out);
+    push_number(count as u64, out);
     out.push_str("\n");
 }
 
@@ -49,7 +49,7 @@ fn push_head(glass: &Glass, out: &mut Line)
     out.push_str("glass ");
     push_name(&glass.name, out);
     out.push_str(" formula ");
-    push_number(glass.formula, out);
+    push_number(u64::from(glass.formula), out);
 }
 
 /// Appends ` low DEC high DEC`.

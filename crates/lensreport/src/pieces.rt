@@ -28,7 +28,7 @@ pub fn push_decimal(v: &Dec, out: &mut Line)
 }
 
 /// Appends a number, of at most 64 bytes.
-pub fn push_number(n: u32, out: &mut Line)
+pub fn push_number(n: u64, out: &mut Line)
     requires { array_string_len out.old + 64 ≤ 2048 }
     ensures bytes { out.new.bytes ≡ out.old.bytes ++ decimal n }
     ensures len { array_string_len out.new ≤ array_string_len out.old + 64 }

@@ -1,6 +1,11 @@
 //! The top call.
 #![tactic(auto)]
 
-mod catalogue;
+mod answer;
+mod deliver;
+mod due;
+mod gather;
 pub mod run;
+#[cfg(test)]
+mod tests;
 pub mod words;

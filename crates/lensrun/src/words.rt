@@ -1,5 +1,10 @@
 //! The words of a call.
 
+ghost use Rattle.std.specs.Prelude.{◌≡◌, map, [], ◌∷◌, IfSome};
+ghost use Rattle.lensmodel.specs.TopCall as top;
+ghost use Rattle.lensmodel.specs.declared.status.FileKind.TheVariants.{Agf};
+ghost use Rattle.lensrun.specs.Asked.{asked, asked_if, HasWavelength, name_within};
+
 use arrayvec::ArrayVec;
 use exactdec::read;
 use fixdec::dec::Dec;
@@ -17,37 +22,79 @@ pub enum Command<'a> {
         /// The wavelength in micrometres, above 0.
         wave: Dec,
     },
+    /// `glass AGF`: the glasses of a catalogue.
+    Glass {
+        /// The name of the catalogue's file.
+        catalogue: &'a [u8],
+    },
+}
+
+impl<'a> Command<'a> {
+    /// The name of the catalogue's file.
+    pub fn catalogue(&self) -> &'a [u8]
+        ensures { top.files_of (asked self.now) ≡ (Agf, result.now) ∷ [] }
+    {
+        match self {
+            Command::Index { catalogue, .. } => catalogue,
+            Command::Glass { catalogue } => catalogue,
+        }
+    }
 }
 
 /// The bytes as 16-bit units; None where there are more than `N`.
-pub fn units<const N: usize>(bytes: &[u8]) -> Option<ArrayVec<u16, N>> {
+pub fn units<const N: usize>(bytes: &[u8]) -> Option<ArrayVec<u16, N>>
+    ensures { result ≡ name_within N bytes.now }
+{
+    if N < bytes.len() {
+        return None;
+    }
     let mut all = ArrayVec::new();
     for byte in bytes {
-        if all.is_full() {
-            return None;
-        }
         all.push(u16::from(*byte));
     }
     Some(all)
 }
 
+/// A decimal above 0.
+fn above_zero(value: Option<Dec>) -> Option<Dec>
+    ensures { result ≡ top.positive_if value }
+{
+    value.filter(|value| 0 < value.mant)
+}
+
 /// A decimal above 0 of at most 64 bytes.
-fn positive(word: &[u8]) -> Option<Dec> {
+fn positive(word: &[u8]) -> Option<Dec>
+    ensures { result ≡ top.positive_decimal word.now }
+{
     let letters: ArrayVec<u16, 64> = units(word)?;
-    let value = read::read(letters.as_slice()).ok()?;
-    if 0 < value.mant { Some(value) } else { None }
+    above_zero(read::read(letters.as_slice()).ok())
+}
+
+/// The words after `index`.
+fn index_command<'a>(catalogue: &'a [u8], glass: &[u8], wave: &[u8]) -> Option<Command<'a>>
+    ensures { asked_if result ≡ top.index_command catalogue.now glass.now (top.positive_decimal wave.now) }
+{
+    let wave = positive(wave)?;
+    let glass = units(glass)?;
+    Some(Command::Index {
+        catalogue,
+        glass,
+        wave,
+    })
 }
 
 /// The command that the words ask for; None where they fit no command.
-pub fn command_of(words: &[Vec<u8>]) -> Option<Command<'_>> {
+pub fn command_of(words: &[Vec<u8>]) -> Option<Command<'_>>
+    ensures exact { asked_if result ≡ top.command_of (map (λ w. w.items) words.now) }
+    ensures wave { IfSome result (λ c. HasWavelength (asked c)) }
+{
     match words {
-        [name, catalogue, glass, wave] if name.as_slice() == b"index".as_slice() => Some(
-            Command::Index {
-                catalogue: catalogue.as_slice(),
-                glass: units(glass.as_slice())?,
-                wave: positive(wave.as_slice())?,
-            },
-        ),
+        [name, catalogue] if name.as_slice() == b"glass".as_slice() => Some(Command::Glass {
+            catalogue: catalogue.as_slice(),
+        }),
+        [name, catalogue, glass, wave] if name.as_slice() == b"index".as_slice() => {
+            index_command(catalogue.as_slice(), glass.as_slice(), wave.as_slice())
+        }
         _ => None,
     }
 }

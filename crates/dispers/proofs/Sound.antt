@@ -1,0 +1,41 @@
+-- A medium that was picked has indices from 1 to 5.
+use Rattle.std.proofs.Common.{◌≡◌, ℕ, ◌^◌, pos, List, Result, Ok, Err, refl, subst, sym}
+use Rattle.std.specs.Prelude.{IfOk, ◌≤ℤ◌}
+use Rattle.fixdec.specs.Decimal.{Decimal}
+use Rattle.fixdec.specs.Ends.{Ends}
+use Rattle.fixdec.specs.Frac.{Frac}
+use Rattle.fixdec.specs.Member.{IsMember, units}
+use Rattle.fixdec.specs.MemberLaws.{units_pos}
+use Rattle.fixdec.specs.Order.{le_trans, le_whole}
+use Rattle.fixdec.specs.OrderLaws.{le_cancel, le_same_left, le_same_right, whole_mul}
+use Rattle.fixdec.specs.FracLaws.{≈_sym}
+use Rattle.lensmodel.specs.Dispersion.{IsIndex}
+use Rattle.lensmodel.specs.Picking.{picked, medium_of}
+use Rattle.lensmodel.specs.Residual.{residual}
+use Rattle.lensmodel.specs.declared.fault.CrossFault.{CrossFault}
+use Rattle.lensmodel.specs.declared.glass.Glass.{Glass}
+use Rattle.lensmodel.specs.declared.glass.Medium.{Medium}
+use Rattle.dispers.specs.IndexAt12.{index_at_12-holds}
+use Rattle.dispers.specs.Limits.{IsFrom1To5}
+use Rattle.dispers.specs.Picked.{known_if_used, picked-is}
+
+-- what lies between the ends of an interval from 1 to 5 does too
+within_limits : (e : Ends) (n : Frac) → pos 1_000_000_000_000 ≤ℤ e.lo → e.hi ≤ℤ pos 5_000_000_000_000 → IsMember 12 e n → IsFrom1To5 n
+within_limits e n l h m = record {
+  low = le_cancel (units 12) (units_pos 12) (le_same_left (≈_sym (whole_mul (pos 1) (pos (10 ^ 12)))) (le_trans (le_whole l) m.low));
+  high = le_cancel (units 12) (units_pos 12) (le_same_right (le_trans m.high (le_whole h)) (whole_mul (pos 5) (pos (10 ^ 12))));
+}
+
+module _ (book : List Glass) (name : List ℕ) (wave : Decimal) where
+  -- each index of a medium is from 1 to 5
+  abbrev pub IsSound : Medium → Type 0
+  IsSound m = (n : Frac) → IsIndex (residual 12) m wave n → IsFrom1To5 n
+
+  pub picked-sound : (r : Result Medium CrossFault) → r ≡ medium_of (picked book name wave) → IfOk r IsSound
+  picked-sound r e = subst (λ x. IfOk x IsSound) (sym e) (by (picked book name wave) refl)
+    where
+      by : (p : Result Glass CrossFault) → picked book name wave ≡ p → IfOk (medium_of p) IsSound
+      by (Err fault) i = tt
+      by (Ok g) i =
+          let u = (picked-is book name wave g i).usable in
+          λ n h. within_limits u.ends n u.least u.greatest (index_at_12-holds g wave u.ends (known_if_used g.formula u.used) u.index n h)

@@ -1,0 +1,17 @@
+use Rattle.lensmodel.specs.Picking.{picked}
+use Rattle.dispers.proofs.Sound.{picked-sound}
+use Rattle.dispers.proofs.pick.pick.Goals as goal
+
+pub returns-in-Some-clause-exact : goal.returns-in-Some-clause-exact
+unfolding picked
+returns-in-Some-clause-exact c = let h = c.in-Some.ensures in rw (← h) c.usable.ensures
+
+pub returns-in-None-clause-exact : goal.returns-in-None-clause-exact
+unfolding picked
+returns-in-None-clause-exact c = let h = c.in-None.ensures in rw (← h)
+
+pub returns-in-Some-clause-sound : goal.returns-in-Some-clause-sound
+returns-in-Some-clause-sound c = picked-sound c.args.book.now c.args.name.now.items c.args.wave.now _ (returns-in-Some-clause-exact c)
+
+pub returns-in-None-clause-sound : goal.returns-in-None-clause-sound
+returns-in-None-clause-sound c = picked-sound c.args.book.now c.args.name.now.items c.args.wave.now _ (returns-in-None-clause-exact c)

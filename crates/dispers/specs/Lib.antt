@@ -1,0 +1,3 @@
+pub mod IndexAt12
+pub mod Limits
+pub mod Picked

@@ -1,0 +1,14 @@
+pub mod Corrections
+pub mod Divided
+pub mod FormLaws
+pub mod FormMembers
+pub mod Kept
+pub mod Leftovers
+pub mod ProductLaw
+pub mod QuotientLaw
+pub mod QuotientParts
+pub mod RootLaw
+pub mod RootParts
+pub mod ShiftLaw
+pub mod SumLaws
+pub mod Swings

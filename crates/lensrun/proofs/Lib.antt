@@ -1,0 +1,5 @@
+mod Deliveries
+mod Lines
+mod Meaning
+mod Outcomes
+mod Usability

@@ -1,0 +1,122 @@
+-- What is due is the outcome of the words and the files, told or not.
+use Rattle.std.proofs.Common.{◌≡◌, ◌⊎◌, ℕ, ◌<◌, ◌≤◌, suc, zero, List, [], ◌∷◌, length, refl, sym, subst, ap, ◌∙◌, arith}
+use Rattle.std.specs.Prelude.{Option, Some, None, IsSomeAnd}
+use Rattle.std.proofs.lemmas.Bool.{le-ltb, lt-ltb}
+use Rattle.lensio.specs.Held.{Holds, HoldsMore, Lacks}
+use Rattle.lensio.specs.declared.transfer.SlurpFault.{SlurpFault}
+use Rattle.lensio.specs.declared.transfer.SlurpFault.TheVariants as slurped
+use Rattle.lensmodel.specs.FaultText.{usage_line, absent_line, too_long_line, read_fault_line}
+use Rattle.lensmodel.specs.TopCall.{Files, Answer, answer, Command, index, glass, command_of, files_of, command_answer, on_file, outcome}
+use Rattle.lensmodel.specs.declared.status.FileKind.{FileKind}
+use Rattle.lensmodel.specs.declared.status.FileKind.TheVariants.{Agf}
+use Rattle.lensmodel.specs.declared.status.Status.{Status}
+use Rattle.lensmodel.specs.declared.status.Status.TheVariants.{Usage, Absent, TooLong, ReadFault, Memory}
+use Rattle.lensrun.specs.Due.{unread_answer, bytes_answer}
+use Rattle.lensrun.specs.Promise.{OfFiles, IsDecided, IsReadFaultLine}
+
+pub OfFiles-map : (held : Option Files) (P Q : Files → Type 0) → ((files : Files) → P files → Q files) → OfFiles held P → OfFiles held Q
+OfFiles-map None P Q f h = (h.0, f h.0 h.1)
+OfFiles-map (Some files) P Q f h = f files h
+
+-- some bytes past any length
+long : (n : ℕ) → (bytes : List ℕ) × (n < length bytes)
+long zero = (0 ∷ [], omega arith)
+long (suc n) = let more = long n in (0 ∷ more.0, omega (arith, more.1))
+
+-- files that don't have the name
+lacking : (held : Option Files) (name : List ℕ) → Lacks held name → OfFiles held (λ files. files name ≡ None)
+lacking None name h = (λ _. None, refl)
+lacking (Some files) name h = h
+
+-- files that have these bytes by the name
+holding : (held : Option Files) (name bytes : List ℕ) → Holds held name bytes → OfFiles held (λ files. files name ≡ Some bytes)
+holding None name bytes h = (λ _. Some bytes, refl)
+holding (Some files) name bytes h = h
+
+-- more bytes than n
+IsLonger : ℕ → Option (List ℕ) → Type 0
+IsLonger n found = (bytes : List ℕ) × (n < length bytes) × (found ≡ Some bytes)
+
+longer_if : (n : ℕ) (found : Option (List ℕ)) → IsSomeAnd found (λ bytes. n < length bytes) → IsLonger n found
+unfolding IsLonger
+longer_if n None h = absurd h
+longer_if n (Some bytes) h = (bytes, h, refl)
+
+longer : (held : Option Files) (name : List ℕ) (n : ℕ) → HoldsMore held name n → OfFiles held (λ files. IsLonger n (files name))
+unfolding IsLonger
+longer None name n h = (λ _. Some (long n).0, ((long n).0, (long n).1, refl))
+longer (Some files) name n h = longer_if n (files name) h
+
+-- ---- the outcome by what the file is
+-- the name of the first file
+first_name : List (FileKind × List ℕ) → List ℕ
+first_name [] = []
+first_name (file ∷ more) = file.1
+
+-- one catalogue
+alone : List ℕ → List (FileKind × List ℕ)
+alone name = (Agf, name) ∷ []
+
+same_name : (a b : List ℕ) → alone a ≡ alone b → a ≡ b
+unfolding first_name alone
+same_name a b e = ap first_name e
+
+by_file : (files : Files) (c : Command) (name : List ℕ) → files_of c ≡ (Agf, name) ∷ [] → command_answer files (Some c) ≡ on_file Agf (files name) (bytes_answer c)
+unfolding alone
+by_file files (index agf glass_name wave) name e = ap (λ n. on_file Agf (files n) (bytes_answer (index agf glass_name wave))) (same_name agf name e)
+by_file files (glass agf) name e = ap (λ n. on_file Agf (files n) (bytes_answer (glass agf))) (same_name agf name e)
+
+outcome_by_file : (files : Files) (said : List (List ℕ)) (c : Command) (name : List ℕ) (found : Option (List ℕ)) → Some c ≡ command_of said → files_of c ≡ (Agf, name) ∷ []
+    → files name ≡ found → on_file Agf found (bytes_answer c) ≡ outcome files said
+unfolding outcome
+outcome_by_file files said c name found e names is =
+    ap (λ f. on_file Agf f (bytes_answer c)) (sym is) ∙ sym (by_file files c name names) ∙ ap (command_answer files) e
+
+pub usage_outcome : (held : Option Files) (said : List (List ℕ)) (a : Answer) → None ≡ command_of said → a ≡ answer Usage usage_line → OfFiles held (λ files. a ≡ outcome files said)
+unfolding outcome
+usage_outcome None said a e h = (λ _. None, h ∙ ap (command_answer (λ _. None)) e)
+usage_outcome (Some files) said a e h = h ∙ ap (command_answer files) e
+
+too_long : (bytes : List ℕ) (go_on : List ℕ → Answer) → 16_777_216 < length bytes → answer TooLong (too_long_line Agf) ≡ on_file Agf (Some bytes) go_on
+too_long bytes go_on h = rw (lt-ltb 16_777_216 (length bytes) h) refl
+
+within : (bytes : List ℕ) (go_on : List ℕ → Answer) → length bytes ≤ 16_777_216 → go_on bytes ≡ on_file Agf (Some bytes) go_on
+within bytes go_on h = rw (le-ltb 16_777_216 (length bytes) h) refl
+
+pub read_outcome : (held : Option Files) (said : List (List ℕ)) (c : Command) (name bytes : List ℕ) (a : Answer) → Some c ≡ command_of said → files_of c ≡ (Agf, name) ∷ []
+    → Holds held name bytes → length bytes ≤ 16_777_216 → a ≡ bytes_answer c bytes → OfFiles held (λ files. a ≡ outcome files said)
+read_outcome held said c name bytes a e names holds short due =
+    OfFiles-map held (λ files. files name ≡ Some bytes) (λ files. a ≡ outcome files said)
+    (λ files is. due ∙ within bytes (bytes_answer c) short ∙ outcome_by_file files said c name (Some bytes) e names is)
+    (holding held name bytes holds)
+
+pub unread_outcome : (held : Option Files) (said : List (List ℕ)) (c : Command) (name : List ℕ) (fault : SlurpFault) (a : Answer) → Some c ≡ command_of said → files_of c ≡ (Agf, name) ∷ []
+    → (fault ≡ slurped.Absent → Lacks held name) → (fault ≡ slurped.TooLong → HoldsMore held name 16_777_216)
+    → a ≡ unread_answer Agf fault → IsDecided a.status → OfFiles held (λ files. a ≡ outcome files said)
+unfolding IsLonger
+unread_outcome held said c name slurped.Absent a e names lacks more due decided =
+    OfFiles-map held (λ files. files name ≡ None) (λ files. a ≡ outcome files said)
+    (λ files is. due ∙ outcome_by_file files said c name None e names is)
+    (lacking held name (lacks refl))
+unread_outcome held said c name slurped.TooLong a e names lacks more due decided =
+    OfFiles-map held (λ files. IsLonger 16_777_216 (files name)) (λ files. a ≡ outcome files said)
+    (λ files is. due ∙ too_long is.0 (bytes_answer c) is.1 ∙ outcome_by_file files said c name (Some is.0) e names is.2)
+    (longer held name 16_777_216 (more refl))
+unread_outcome held said c name slurped.Fault a e names lacks more due decided = absurd (subst (λ (x : Answer). IsDecided x.status) due decided)
+unread_outcome held said c name slurped.Memory a e names lacks more due decided = absurd (subst (λ (x : Answer). IsDecided x.status) due decided)
+
+-- the line of a failed read
+line_of_file : (c : Command) (text : List ℕ) → text ≡ read_fault_line Agf → IsReadFaultLine (Some c) text
+line_of_file (index agf name wave) text e = (0, (Agf, agf), omega arith, refl, e)
+line_of_file (glass agf) text e = (0, (Agf, agf), omega arith, refl, e)
+
+read_fault_line_if : (fault : SlurpFault) (a : Answer) → a ≡ unread_answer Agf fault → a.status ≡ ReadFault → a.text ≡ read_fault_line Agf
+read_fault_line_if slurped.Fault a due is = ap (λ (x : Answer). x.text) due
+read_fault_line_if slurped.Absent a due is = absurd (cc (ap (λ (x : Answer). x.status) due))
+read_fault_line_if slurped.TooLong a due is = absurd (cc (ap (λ (x : Answer). x.status) due))
+read_fault_line_if slurped.Memory a due is = absurd (cc (ap (λ (x : Answer). x.status) due))
+
+pub read_fault_text : (said : List (List ℕ)) (c : Command) (fault : SlurpFault) (a : Answer) → Some c ≡ command_of said
+    → a ≡ unread_answer Agf fault → a.status ≡ ReadFault → IsReadFaultLine (command_of said) a.text
+read_fault_text said c fault a e due is =
+    subst (λ (o : Option Command). IsReadFaultLine o a.text) e (line_of_file c a.text (read_fault_line_if fault a due is))

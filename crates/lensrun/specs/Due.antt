@@ -1,0 +1,48 @@
+-- What a call is due to write, once its words were taken and its file was read.
+use Rattle.std.specs.Prelude.{◌≡◌, ℕ, ◌⊎◌, List, [], Option}
+use Rattle.lensio.specs.Count.{Rose}
+use Rattle.lensio.specs.Taken.{Takes, TakesFront}
+use Rattle.lensio.specs.declared.transfer.SlurpFault.{SlurpFault}
+use Rattle.lensio.specs.declared.transfer.SlurpFault.TheVariants as slurped
+use Rattle.lensmodel.specs.Catalogue.{catalogue}
+use Rattle.lensmodel.specs.FaultText.{absent_line, read_fault_line, too_long_line}
+use Rattle.lensmodel.specs.Picking.{picked}
+use Rattle.lensmodel.specs.Printed.{book_text}
+use Rattle.lensmodel.specs.TopCall.{Answer, answer, Command, index, glass, on_book, on_glass}
+use Rattle.lensmodel.specs.declared.glass.Glass.{Glass}
+use Rattle.lensmodel.specs.declared.status.FileKind.{FileKind}
+use Rattle.lensmodel.specs.declared.status.Status.{Status}
+use Rattle.lensmodel.specs.declared.status.Status.TheVariants.{Done, Absent, ReadFault, TooLong, WriteFault, Memory}
+use Rattle.lensrun.specs.declared.due.Due.{Due}
+use Rattle.lensrun.specs.declared.due.Due.TheVariants.{Line, Glasses, Nothing}
+
+-- what is due, as an answer
+abbrev pub due_answer : Due → Answer
+due_answer (Line status text) = answer status text.bytes
+due_answer (Glasses book) = answer Done (book_text book)
+due_answer Nothing = answer Memory []
+
+-- this answer is due, or nothing for want of memory
+abbrev pub IsDueOrNothing : Due → Answer → Type 0
+IsDueOrNothing due a = (due ≡ Nothing) ⊎ (due_answer due ≡ a)
+
+-- a file that isn't read
+abbrev pub unread_answer : FileKind → SlurpFault → Answer
+unread_answer file slurped.Absent = answer Absent (absent_line file)
+unread_answer file slurped.Fault = answer ReadFault (read_fault_line file)
+unread_answer file slurped.TooLong = answer TooLong (too_long_line file)
+unread_answer file slurped.Memory = answer Memory []
+
+-- what a command answers over a book
+abbrev pub book_answer : Command → List Glass → Answer
+book_answer (index agf name wave) book = on_glass (picked book name wave) wave
+book_answer (glass agf) book = answer Done (book_text book)
+
+-- what a command answers over the bytes of its catalogue
+abbrev pub bytes_answer : Command → List ℕ → Answer
+bytes_answer command bytes = on_book (catalogue bytes) (book_answer command)
+
+-- the call ended with an answer's status and wrote its text, or a front of it to a sink that failed
+abbrev pub Delivers : Answer → Status → Option (List ℕ) → Option (List ℕ) → ℕ → ℕ → Type 0
+Delivers a ended old new before now =
+    ((ended ≡ a.status) × Takes old new a.text) ⊎ ((ended ≡ WriteFault) × Rose before now × TakesFront old new a.text)

@@ -1,0 +1,55 @@
+//! The writing of what is due.
+
+ghost use Rattle.std.specs.Prelude.{◌≡◌, ◌++◌, ◌≤◌, OnOk, OnErr, is_ok, if◌then◌else◌};
+ghost use Rattle.lensio.specs.Count.{Rose};
+ghost use Rattle.lensio.specs.Taken.{Takes, TakesFront};
+ghost use Rattle.lensmodel.specs.Printed.{book_text};
+ghost use Rattle.lensrun.specs.Due.{due_answer, Delivers};
+
+use crate::due::Due;
+use glassbook::book::GlassBook;
+use lensio::shelf::Failed;
+use lensio::sink::Sink;
+use lensio::transfer::put;
+use lensmodel::status::Status;
+use lensreport::glass::{print_glass, print_glasses};
+use lensreport::pieces::Line;
+
+/// Writes what is due, and answers how the call ends.
+pub fn deliver<K: Sink>(due: &Due, out: &mut K) -> Status
+    ensures delivers { Delivers (due_answer due.now) result (K.taken out.old) (K.taken out.new) (K.faults out.old) (K.faults out.new) }
+    ensures nothing { due.now ≡ Due.Nothing → result ≡ Status.Memory }
+{
+    match due {
+        Due::Line { status, text } => ended(put(out, text.as_str().as_bytes()), *status),
+        Due::Glasses(book) => ended(write_book(book, out), Status::Done),
+        Due::Nothing => Status::Memory,
+    }
+}
+
+/// How a call ends whose text was written, or wasn't.
+fn ended(written: Result<(), Failed>, status: Status) -> Status
+    ensures { result ≡ (if is_ok written then status else Status.WriteFault) }
+{
+    match written {
+        Ok(()) => status,
+        Err(Failed) => Status::WriteFault,
+    }
+}
+
+/// Writes the lines of a book, one after another.
+fn write_book<K: Sink>(book: &GlassBook, out: &mut K) -> Result<(), Failed>
+    ensures ok { OnOk result (Takes (K.taken out.old) (K.taken out.new) (book_text book.now)) }
+    ensures front { OnErr result (TakesFront (K.taken out.old) (K.taken out.new) (book_text book.now)) }
+    ensures failed { OnErr result (Rose (K.faults out.old) (K.faults out.new)) }
+{
+    let mut line = Line::new();
+    print_glasses(book.count(), &mut line);
+    put(out, line.as_str().as_bytes())?;
+    for i in 0..book.count() {
+        line.clear();
+        print_glass(book.at(i), &mut line);
+        put(out, line.as_str().as_bytes())?;
+    }
+    Ok(())
+}

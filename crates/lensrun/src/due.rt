@@ -1,0 +1,95 @@
+//! What a call is due to write.
+
+ghost use Rattle.std.specs.Prelude.{◌≡◌, ◌≢◌};
+ghost use Rattle.lensmodel.specs.FaultText.{usage_line, refused_line, crossed_line, agf_cause};
+ghost use Rattle.lensmodel.specs.TopCall.{answer};
+ghost use Rattle.lensrun.specs.Due.{due_answer, unread_answer};
+
+use glassbook::book::GlassBook;
+use lensio::transfer::SlurpFault;
+use lensmodel::fault::{AgfFault, CrossFault};
+use lensmodel::status::{FileKind, Status};
+use lensreport::faults::{
+    print_absent, print_agf_fault, print_cross_fault, print_read_fault, print_too_long, print_usage,
+};
+use lensreport::pieces::Line;
+
+/// What a call is due to write, and with it how the call ends where that is written.
+#[derive(Drop)]
+pub enum Due {
+    /// One line.
+    Line {
+        /// How the call ends.
+        status: Status,
+        /// The line.
+        text: Line,
+    },
+    /// The glasses of a book, with which the call is done.
+    Glasses(GlassBook),
+    /// Nothing, for want of memory.
+    Nothing,
+}
+
+/// Words that fit no command.
+pub fn usage() -> Due
+    ensures { due_answer result ≡ answer Status.Usage usage_line }
+{
+    let mut text = Line::new();
+    print_usage(&mut text);
+    Due::Line {
+        status: Status::Usage,
+        text,
+    }
+}
+
+/// A file that isn't read.
+pub fn unread(file: FileKind, fault: SlurpFault) -> Due
+    ensures answer { due_answer result ≡ unread_answer file fault }
+    ensures nothing { fault ≡ SlurpFault.Memory → result ≡ Due.Nothing }
+{
+    let mut text = Line::new();
+    let status = match fault {
+        SlurpFault::Absent => {
+            print_absent(file, &mut text);
+            Status::Absent
+        }
+        SlurpFault::Fault => {
+            print_read_fault(file, &mut text);
+            Status::ReadFault
+        }
+        SlurpFault::TooLong => {
+            print_too_long(file, &mut text);
+            Status::TooLong
+        }
+        SlurpFault::Memory => return Due::Nothing,
+    };
+    Due::Line { status, text }
+}
+
+/// A catalogue that is refused; nothing where memory was wanting.
+pub fn refused(fault: AgfFault) -> Due
+    ensures answer { fault ≢ AgfFault.Memory → due_answer result ≡ answer Status.Refused (refused_line FileKind.Agf (agf_cause fault)) }
+    ensures nothing { fault ≡ AgfFault.Memory → result ≡ Due.Nothing }
+{
+    if fault == AgfFault::Memory {
+        return Due::Nothing;
+    }
+    let mut text = Line::new();
+    print_agf_fault(fault, &mut text);
+    Due::Line {
+        status: Status::Refused,
+        text,
+    }
+}
+
+/// Files that don't fit together.
+pub fn crossed(fault: CrossFault) -> Due
+    ensures { due_answer result ≡ answer Status.Refused (crossed_line fault) }
+{
+    let mut text = Line::new();
+    print_cross_fault(fault, &mut text);
+    Due::Line {
+        status: Status::Refused,
+        text,
+    }
+}
