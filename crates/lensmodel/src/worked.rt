@@ -120,7 +120,12 @@ fn ray_from_vertex(q: Dec) -> Launch
     ensures { result ≡ Launch.Plain zero_decimal zero_decimal zero_decimal q }
 {
     let zero = Dec { mant: 0, exp: 0 };
-    Launch::Plain { x: zero, y: zero, p: zero, q }
+    Launch::Plain {
+        x: zero,
+        y: zero,
+        p: zero,
+        q,
+    }
 }
 
 /// A plane in air, the image 4 behind it, and a ray from its vertex with the slope 3/4: its chain
