@@ -5,5 +5,7 @@ pub mod Concrete
 pub mod Exchange
 pub mod Fronts
 pub mod Mirrors
+pub mod Near
 pub mod Rest
 pub mod Slanted
+pub mod Steep

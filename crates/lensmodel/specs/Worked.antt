@@ -77,6 +77,16 @@ sphere_setup =
 abbrev pub axis_ray : Launch
 axis_ray = Plain zero_decimal zero_decimal zero_decimal zero_decimal
 
+-- a plane between glass FLAT and air, and the image 4 behind it
+abbrev pub glass_setup : Setup
+glass_setup =
+    setup_of (record far_object { glass = Some flat_name } ∷ record plane { thick = Some record { mant = pos 4; exp = pos 0 } } ∷ plane ∷ [])
+    (Of flat_glass ∷ Air ∷ [])
+
+-- from the vertex, in the plane of y, with the slope 6/5
+abbrev pub steep_ray : Launch
+steep_ray = Plain zero_decimal zero_decimal zero_decimal record { mant = pos 12; exp = negsuc 0 }
+
 -- a at the start, b at surface 1, c from surface 2 on
 abbrev pub by_surface : Frac → Frac → Frac → ℕ → Frac
 by_surface a b c zero = a

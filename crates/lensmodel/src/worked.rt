@@ -4,14 +4,15 @@ ghost use Rattle.std.specs.Prelude.{◌≡◌, pos, [], ◌∷◌};
 ghost use Rattle.fixdec.specs.Frac.{◌≈◌, whole};
 ghost use Rattle.fixdec.specs.Member.{Symbols};
 ghost use Rattle.lensmodel.specs.Chains.{IsWhole};
-ghost use Rattle.lensmodel.specs.Claims.{HoldsPlace, HoldsHeading};
-ghost use Rattle.lensmodel.specs.Worked.{flat_name, flat_glass, setup_of, plane_setup, slanted_ray, slanted_chain, slanted_vertex, slanted_heading, slanted_image, sphere_setup, axis_ray, axis_chain};
+ghost use Rattle.lensmodel.specs.Claims.{HoldsPlace, HoldsHeading, WordHolds};
+ghost use Rattle.lensmodel.specs.Worked.{flat_name, flat_glass, setup_of, plane_setup, slanted_ray, slanted_chain, slanted_vertex, slanted_heading, slanted_image, sphere_setup, axis_ray, axis_chain, glass_setup, steep_ray};
 ghost use Rattle.lensmodel.specs.Values.{plane, zero_decimal};
 
 use crate::glass::{Glass, Medium};
 use crate::launch::Launch;
 use crate::name::Name;
 use crate::prescription::Prescription;
+use crate::row::Word;
 use crate::setup::Setup;
 use crate::surface::{Surface, SurfaceKind};
 use arrayvec::ArrayVec;
@@ -154,5 +155,21 @@ pub fn glass_axis() -> Worked
     Worked {
         setup: setup_between(plane_surface(None), surface, Medium::Air, flat_medium()),
         ray: ray_from_vertex(Dec { mant: 0, exp: 0 }),
+    }
+}
+
+/// A plane between glass of index 3/2 and air, the image 4 behind it, and a ray from its vertex,
+/// in the glass, with the slope 6/5: no chain leaves the plane.
+pub fn total_reflection() -> Worked
+    ensures setup { result.setup ≡ glass_setup }
+    ensures ray { result.ray ≡ steep_ray }
+    ensures tir { WordHolds (Word.Tir 1) result.setup result.ray }
+{
+    let mut object = plane_surface(None);
+    object.glass = Some(flat());
+    let surface = plane_surface(Some(Dec { mant: 4, exp: 0 }));
+    Worked {
+        setup: setup_between(object, surface, flat_medium(), Medium::Air),
+        ray: ray_from_vertex(Dec { mant: 12, exp: -1 }),
     }
 }
