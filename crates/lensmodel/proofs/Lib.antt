@@ -3,9 +3,14 @@ pub mod Axis
 pub mod Boxes
 pub mod Concrete
 pub mod Exchange
+pub mod Flat
 pub mod Fronts
+pub mod Height
 pub mod Mirrors
 pub mod Near
+pub mod Parabola
+pub mod Reach
+pub mod Residuals
 pub mod Rest
 pub mod Slanted
 pub mod Steep

@@ -27,3 +27,5 @@ pub mod TextLines
 pub mod TopCall
 pub mod Values
 pub mod Worked
+pub mod WorkedChains
+pub mod WorkedRow

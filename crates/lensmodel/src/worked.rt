@@ -5,7 +5,9 @@ ghost use Rattle.fixdec.specs.Frac.{◌≈◌, whole};
 ghost use Rattle.fixdec.specs.Member.{Symbols};
 ghost use Rattle.lensmodel.specs.Chains.{IsWhole};
 ghost use Rattle.lensmodel.specs.Claims.{HoldsPlace, HoldsHeading, WordHolds};
-ghost use Rattle.lensmodel.specs.Worked.{flat_name, flat_glass, setup_of, plane_setup, slanted_ray, slanted_chain, slanted_vertex, slanted_heading, slanted_image, sphere_setup, axis_ray, axis_chain, glass_setup, steep_ray};
+ghost use Rattle.lensmodel.specs.Worked.{flat_name, flat_glass, setup_of, plane_setup, slanted_ray, sphere_setup, axis_ray, glass_setup, steep_ray};
+ghost use Rattle.lensmodel.specs.WorkedChains.{slanted_chain, axis_chain};
+ghost use Rattle.lensmodel.specs.WorkedRow.{slanted_vertex, slanted_heading, slanted_image};
 ghost use Rattle.lensmodel.specs.Values.{plane, zero_decimal};
 
 use crate::glass::{Glass, Medium};

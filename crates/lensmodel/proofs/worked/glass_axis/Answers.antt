@@ -1,6 +1,7 @@
 use Rattle.std.proofs.Common.{rules, ◌≡◌, sym, subst}
 use Rattle.lensmodel.specs.Chains.{IsWhole}
-use Rattle.lensmodel.specs.Worked.{sphere_setup, axis_ray, axis_chain}
+use Rattle.lensmodel.specs.Worked.{sphere_setup, axis_ray}
+use Rattle.lensmodel.specs.WorkedChains.{axis_chain}
 use Rattle.lensmodel.proofs.Axis.{axis_whole}
 use Rattle.lensmodel.proofs.worked.glass_axis.Goals as goal
 

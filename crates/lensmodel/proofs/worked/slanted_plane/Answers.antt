@@ -1,6 +1,7 @@
 use Rattle.std.proofs.Common.{rules, ◌≡◌, sym, subst}
 use Rattle.lensmodel.specs.Chains.{IsWhole}
-use Rattle.lensmodel.specs.Worked.{plane_setup, slanted_ray, slanted_chain}
+use Rattle.lensmodel.specs.Worked.{plane_setup, slanted_ray}
+use Rattle.lensmodel.specs.WorkedChains.{slanted_chain}
 use Rattle.lensmodel.proofs.Slanted.{slanted_whole, slanted_vertex_holds, slanted_heading_holds, slanted_image_holds}
 use Rattle.lensmodel.proofs.worked.slanted_plane.Goals as goal
 
