@@ -25,3 +25,7 @@ flat_side s c x v p n =
 
 pub flat_rho : (y : Frac) → y *Q y ≈ whole (pos 0) *Q whole (pos 0) +Q y *Q y
 flat_rho y = linear (y ∷ []) _ _ (search reads depth 12) no_fact tt
+
+-- a level line keeps its height
+pub flat_line : (y t : Frac) → y ≈ y +Q whole (pos 0) *Q t
+flat_line y t = linear (y ∷ t ∷ []) _ _ (search reads depth 12) no_fact tt

@@ -11,12 +11,12 @@ use Rattle.lensmodel.specs.Media.{medium_at}
 use Rattle.lensmodel.specs.Start.{Starts}
 use Rattle.lensmodel.specs.Values.{eps, owner, image}
 use Rattle.lensmodel.proofs.Concrete.{same, at_most, less_than, near}
-use Rattle.lensmodel.specs.Worked.{sphere_setup, level_ray}
+use Rattle.lensmodel.specs.Worked.{sphere_setup, level_ray, whole_decimal}
 use Rattle.lensmodel.specs.WorkedChains.{height_chain, digits}
 use Rattle.lensmodel.proofs.Axis.{formula}
 
 module _ (symbols : Symbols) where
-  starts : Starts sphere_setup (level_ray (pos 6)) (height_chain symbols)
+  starts : Starts sphere_setup (level_ray (whole_decimal (pos 6))) (height_chain symbols)
   unfolding ◌+Q◌ ◌*Q◌ ◌-Q◌ neg_Q whole
   starts = record {
     x = same refl;
@@ -65,5 +65,5 @@ module _ (symbols : Symbols) where
   }
   bends (suc i) lt = absurd (omega arith)
 
-  pub height_whole : IsWhole sphere_setup (level_ray (pos 6)) (height_chain symbols)
+  pub height_whole : IsWhole sphere_setup (level_ray (whole_decimal (pos 6))) (height_chain symbols)
   height_whole = record { start = starts; index = indexed; transfer = transfers; crossing = crosses; bending = bends }

@@ -6,11 +6,13 @@ pub mod Exchange
 pub mod Flat
 pub mod Fronts
 pub mod Height
+pub mod Level
 pub mod Mirrors
 pub mod Near
 pub mod Parabola
 pub mod Reach
 pub mod Residuals
 pub mod Rest
+pub mod Rim
 pub mod Slanted
 pub mod Steep

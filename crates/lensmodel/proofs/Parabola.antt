@@ -11,11 +11,11 @@ use Rattle.lensmodel.specs.Media.{medium_at}
 use Rattle.lensmodel.specs.Start.{Starts}
 use Rattle.lensmodel.specs.Values.{eps, owner, image}
 use Rattle.lensmodel.proofs.Concrete.{same, at_most, less_than, near}
-use Rattle.lensmodel.specs.Worked.{mirror_setup, level_ray}
+use Rattle.lensmodel.specs.Worked.{mirror_setup, level_ray, whole_decimal}
 use Rattle.lensmodel.specs.WorkedChains.{mirror_chain, digits}
 
 module _ (symbols : Symbols) where
-  starts : Starts mirror_setup (level_ray (pos 2)) (mirror_chain symbols)
+  starts : Starts mirror_setup (level_ray (whole_decimal (pos 2))) (mirror_chain symbols)
   unfolding ◌+Q◌ ◌*Q◌ ◌-Q◌ neg_Q whole
   starts = record {
     x = same refl;
@@ -59,5 +59,5 @@ module _ (symbols : Symbols) where
   }
   bends (suc i) lt = absurd (omega arith)
 
-  pub mirror_whole : IsWhole mirror_setup (level_ray (pos 2)) (mirror_chain symbols)
+  pub mirror_whole : IsWhole mirror_setup (level_ray (whole_decimal (pos 2))) (mirror_chain symbols)
   mirror_whole = record { start = starts; index = indexed; transfer = transfers; crossing = crosses; bending = bends }

@@ -1,6 +1,7 @@
 -- Worked setups and rays: small numbers that can be checked by hand.
 use Rattle.std.specs.Prelude.{ℕ, ℤ, pos, negsuc, true, List, [], ◌∷◌, Some, None}
 use Rattle.arrayvec.specs.ArrayVec.{ArrayVec}
+use Rattle.fixdec.specs.Decimal.{Decimal}
 use Rattle.lensmodel.specs.Values.{zero_decimal, plane}
 use Rattle.lensmodel.specs.declared.glass.Glass.{Glass}
 use Rattle.lensmodel.specs.declared.glass.Medium.{Medium}
@@ -89,9 +90,13 @@ rim_setup =
     ∷ plane ∷ [])
     (Air ∷ Air ∷ [])
 
+-- the decimal n
+abbrev pub whole_decimal : ℤ → Decimal
+whole_decimal n = record { mant = n; exp = pos 0 }
+
 -- along the axis, at the height y
-abbrev pub level_ray : ℤ → Launch
-level_ray y = Plain zero_decimal record { mant = y; exp = pos 0 } zero_decimal zero_decimal
+abbrev pub level_ray : Decimal → Launch
+level_ray y = Plain zero_decimal y zero_decimal zero_decimal
 
 -- a parabola of curvature -1/10 that reflects, and the image in its focus, 5 before it
 abbrev pub mirror_setup : Setup
@@ -106,3 +111,10 @@ mirror_setup =
     }
     ∷ plane ∷ [])
     (Air ∷ Air ∷ [])
+
+-- the heights 5.1 and 4.9, past the rim and within it
+abbrev pub high_height : Decimal
+high_height = record { mant = pos 51; exp = negsuc 0 }
+
+abbrev pub low_height : Decimal
+low_height = record { mant = pos 49; exp = negsuc 0 }
