@@ -1,5 +1,6 @@
 pub mod Along
 pub mod Axis
+pub mod Bowl
 pub mod Boxes
 pub mod Concrete
 pub mod Exchange

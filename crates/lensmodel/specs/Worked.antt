@@ -11,6 +11,11 @@ use Rattle.lensmodel.specs.declared.launch.Launch.TheVariants.{Plain}
 use Rattle.lensmodel.specs.declared.prescription.Prescription.{Prescription}
 use Rattle.lensmodel.specs.declared.setup.Setup.{Setup}
 use Rattle.lensmodel.specs.declared.surface.Surface.{Surface}
+use Rattle.lensmodel.specs.declared.surface.SurfaceKind.TheVariants.{EvenAsph}
+
+-- the decimal n
+abbrev pub whole_decimal : ℤ → Decimal
+whole_decimal n = record { mant = n; exp = pos 0 }
 
 -- the name FLAT
 abbrev pub flat_name : ArrayVec ℕ
@@ -52,7 +57,7 @@ setup_of surfaces media = record {
 
 -- a plane in air, and the image 4 behind it
 abbrev pub plane_setup : Setup
-plane_setup = setup_of (far_object ∷ record plane { thick = Some record { mant = pos 4; exp = pos 0 } } ∷ plane ∷ []) (Air ∷ Air ∷ [])
+plane_setup = setup_of (far_object ∷ record plane { thick = Some (whole_decimal (pos 4)) } ∷ plane ∷ []) (Air ∷ Air ∷ [])
 
 -- from the vertex, in the plane of y, with the slope 3/4
 abbrev pub slanted_ray : Launch
@@ -74,7 +79,7 @@ axis_ray = Plain zero_decimal zero_decimal zero_decimal zero_decimal
 -- a plane between glass FLAT and air, and the image 4 behind it
 abbrev pub glass_setup : Setup
 glass_setup =
-    setup_of (record far_object { glass = Some flat_name } ∷ record plane { thick = Some record { mant = pos 4; exp = pos 0 } } ∷ plane ∷ [])
+    setup_of (record far_object { glass = Some flat_name } ∷ record plane { thick = Some (whole_decimal (pos 4)) } ∷ plane ∷ [])
     (Of flat_glass ∷ Air ∷ [])
 
 -- from the vertex, in the plane of y, with the slope 6/5
@@ -86,13 +91,9 @@ abbrev pub rim_setup : Setup
 rim_setup =
     setup_of
     (far_object
-    ∷ record plane { thick = Some record { mant = pos 4; exp = pos 0 }; semi = Some record { mant = pos 5; exp = pos 0 }; rim = true }
+    ∷ record plane { thick = Some (whole_decimal (pos 4)); semi = Some (whole_decimal (pos 5)); rim = true }
     ∷ plane ∷ [])
     (Air ∷ Air ∷ [])
-
--- the decimal n
-abbrev pub whole_decimal : ℤ → Decimal
-whole_decimal n = record { mant = n; exp = pos 0 }
 
 -- along the axis, at the height y
 abbrev pub level_ray : Decimal → Launch
@@ -105,8 +106,8 @@ mirror_setup =
     (far_object
     ∷ record plane {
       curv = record { mant = negsuc 0; exp = negsuc 0 };
-      conic = record { mant = negsuc 0; exp = pos 0 };
-      thick = Some record { mant = negsuc 4; exp = pos 0 };
+      conic = whole_decimal (negsuc 0);
+      thick = Some (whole_decimal (negsuc 4));
       mirror = true;
     }
     ∷ plane ∷ [])
@@ -118,3 +119,21 @@ high_height = record { mant = pos 51; exp = negsuc 0 }
 
 abbrev pub low_height : Decimal
 low_height = record { mant = pos 49; exp = negsuc 0 }
+
+-- the bowl z = (x² + y²) / 10 in air, as an even asphere, and the image 4 behind its vertex
+abbrev pub bowl_setup : Setup
+bowl_setup =
+    setup_of
+    (far_object
+    ∷ record plane {
+      kind = EvenAsph;
+      thick = Some (whole_decimal (pos 4));
+      semi = Some (whole_decimal (pos 5));
+      a1 = record { mant = pos 1; exp = negsuc 0 };
+    }
+    ∷ plane ∷ [])
+    (Air ∷ Air ∷ [])
+
+-- from the height 0.375, with the slope 5
+abbrev pub bowl_ray : Launch
+bowl_ray = Plain zero_decimal record { mant = pos 375; exp = negsuc 2 } zero_decimal (whole_decimal (pos 5))

@@ -119,3 +119,27 @@ steep_chain symbols = record {
   m = λ j. digits (pos 768221279597376);
   n = λ j. digits (pos 640184399664480);
 }
+
+-- the ray of slope 5 that meets the bowl at the height y, where the sag is z and the path p, to fifteen places
+abbrev pub bowl_chain : Frac → Frac → Frac → Symbols → Chain
+bowl_chain y z p symbols = record {
+  symbols = symbols;
+  glass_index = λ j. whole (pos 1);
+  x = λ j. whole (pos 0);
+  y = by_surface (record { num = pos 3; less = 7 }) y (record { num = pos 163; less = 7 });
+  z = by_surface (whole (pos 0)) z (whole (pos 0));
+  path = by_surface (whole (pos 0)) p (digits (pos 20396078054371139));
+  rho = by_surface (whole (pos 0)) (y *Q y) (record { num = pos 26569; less = 63 });
+  conic_sag = λ j. whole (pos 0);
+  w = λ j. whole (pos 1);
+  l = λ j. whole (pos 0);
+  m = λ j. digits (pos 980580675690920);
+  n = λ j. digits (pos 196116135138184);
+}
+
+-- it meets the bowl twice, at the heights 1/2 and 3/2
+abbrev pub bowl_near : Symbols → Chain
+bowl_near = bowl_chain (record { num = pos 1; less = 1 }) (record { num = pos 1; less = 39 }) (digits (pos 127475487839820))
+
+abbrev pub bowl_far : Symbols → Chain
+bowl_far = bowl_chain (record { num = pos 3; less = 1 }) (record { num = pos 9; less = 39 }) (digits (pos 1147279390558377))
