@@ -1,15 +1,15 @@
 -- The two chains of one ray through a bowl.
-use Rattle.std.proofs.Common.{◌≡◌, ℕ, zero, suc, ◌<◌, ◌≤◌, refl, arith}
-use Rattle.std.specs.Prelude.{pos, negsuc}
-use Rattle.fixdec.specs.Frac.{Frac, ◌≈◌, ◌≤Q◌, ◌+Q◌, ◌*Q◌, ◌-Q◌, neg_Q, whole}
+use Rattle.std.proofs.Common.{ℕ, zero, suc, ◌<◌, refl, arith}
+use Rattle.std.specs.Prelude.{pos}
+use Rattle.fixdec.specs.Frac.{◌≈◌, ◌+Q◌, ◌*Q◌, ◌-Q◌, neg_Q, whole}
 use Rattle.fixdec.specs.Member.{Symbols}
 use Rattle.lensmodel.specs.Bending.{Bends}
-use Rattle.lensmodel.specs.Chains.{IsWhole, IsChainTo, Clears, ClearsAll}
+use Rattle.lensmodel.specs.Chains.{IsWhole}
 use Rattle.lensmodel.specs.Crossing.{Transfers, Crosses}
 use Rattle.lensmodel.specs.Dispersion.{IsIndex}
 use Rattle.lensmodel.specs.Media.{medium_at}
 use Rattle.lensmodel.specs.Start.{Starts}
-use Rattle.lensmodel.specs.Values.{surface_at, eps, owner, image}
+use Rattle.lensmodel.specs.Values.{surface_at, eps, owner}
 use Rattle.lensmodel.proofs.Concrete.{same, at_most, less_than, near}
 use Rattle.lensmodel.specs.Worked.{bowl_setup, bowl_ray}
 use Rattle.lensmodel.specs.WorkedChains.{bowl_near, bowl_far, digits}

@@ -2,7 +2,6 @@
 use Rattle.std.proofs.Common.{[], ◌∷◌}
 use Rattle.std.specs.Prelude.{pos}
 use Rattle.fixdec.specs.Frac.{Frac, ◌≈◌, ◌≤Q◌, ◌+Q◌, ◌*Q◌, whole}
-use Rattle.fixdec.specs.FracLaws.{≈_sym}
 use Rattle.fixdec.specs.Linear.{linear, linear_le, name, order, no_fact, reads}
 use Rattle.fixdec.specs.OrderLaws.{zero_le_one}
 use Rattle.lensmodel.specs.Residual.{IsWithin}

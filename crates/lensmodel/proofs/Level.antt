@@ -1,9 +1,9 @@
 -- Level rays through a plane with a rim of radius 5: no chain clears at the height 5.1, and every chain at 4.9.
-use Rattle.std.proofs.Common.{ℕ, zero, suc, ◌<◌, ◌≤◌, refl, [], ◌∷◌, arith}
+use Rattle.std.proofs.Common.{zero, suc, refl, [], ◌∷◌, arith}
 use Rattle.std.proofs.lemmas.Int.{ints}
-use Rattle.std.specs.Prelude.{pos, negsuc}
+use Rattle.std.specs.Prelude.{pos}
 use Rattle.fixdec.specs.Decimal.{Decimal, value}
-use Rattle.fixdec.specs.Frac.{Frac, ◌≈◌, ◌≤Q◌, ◌<Q◌, ◌+Q◌, ◌*Q◌, ◌-Q◌, neg_Q, whole}
+use Rattle.fixdec.specs.Frac.{Frac, ◌≈◌, ◌≤Q◌, ◌<Q◌, ◌+Q◌, ◌*Q◌, whole}
 use Rattle.fixdec.specs.FracLaws.{≈_sym, ≈_trans}
 use Rattle.fixdec.specs.Linear.{linear_le, fact, order, no_fact, reads}
 use Rattle.fixdec.specs.Member.{Symbols}
@@ -11,11 +11,11 @@ use Rattle.fixdec.specs.Order.{le_trans}
 use Rattle.fixdec.specs.OrderLaws.{zero_le_one, zero_le_whole, le_cancel, le_mul_both, le_of_squares, mul_nn, square_nn, lt_whole, lt_not_le, le_of_lt}
 use Rattle.fixdec.specs.Within.{IsWithin as HasSize, within_mul}
 use Rattle.lensmodel.specs.Chain.{Chain}
-use Rattle.lensmodel.specs.Chains.{IsChainTo, IsWhole, Clears, ClearsAll}
+use Rattle.lensmodel.specs.Chains.{IsChainTo}
 use Rattle.lensmodel.specs.Claims.{WordHolds}
 use Rattle.lensmodel.specs.Crossing.{Transfers, Crosses}
 use Rattle.lensmodel.specs.Residual.{IsWithin}
-use Rattle.lensmodel.specs.Start.{Starts, slope_x, slope_y}
+use Rattle.lensmodel.specs.Start.{slope_x, slope_y}
 use Rattle.lensmodel.specs.Values.{zero_decimal, curvature, eps}
 use Rattle.lensmodel.specs.Worked.{rim_setup, level_ray, high_height, low_height}
 use Rattle.lensmodel.specs.declared.row.Word.TheVariants.{Passes, Vignetted}
@@ -105,18 +105,18 @@ outside : (eps v x y rho : Frac) → eps *Q whole (pos 1000) ≤Q whole (pos 1) 
     → rho ≈ x *Q x +Q y *Q y → rho ≤Q whole (pos 5) *Q whole (pos 1) *Q (whole (pos 5) *Q whole (pos 1)) → ⊥
 outside eps v x y rho small is near is_rho clears =
     let up : whole (pos 5098) ≤Q y *Q whole (pos 1000) =
-        linear_le (eps ∷ v ∷ y ∷ []) _ _ (search reads depth 20 fits 4000)
-        (order (zero_le_whole 1000) near.above (search reads depth 20 fits 4000)
-        (order (zero_le_whole 2) small (search reads depth 20 fits 4000)
-        (fact (whole (pos 100)) is (search reads depth 20 fits 4000) no_fact))) tt in
+    linear_le (eps ∷ v ∷ y ∷ []) _ _ (search reads depth 20 fits 4000)
+    (order (zero_le_whole 1000) near.above (search reads depth 20 fits 4000)
+    (order (zero_le_whole 2) small (search reads depth 20 fits 4000)
+    (fact (whole (pos 100)) is (search reads depth 20 fits 4000) no_fact))) tt in
     let square : whole (pos 5098) *Q whole (pos 5098) ≤Q y *Q whole (pos 1000) *Q (y *Q whole (pos 1000)) =
-        le_mul_both (zero_le_whole 5098) (le_trans (zero_le_whole 5098) up) up up in
+    le_mul_both (zero_le_whole 5098) (le_trans (zero_le_whole 5098) up) up up in
     let no : whole (pos 989604) ≤Q whole (pos 0) =
-        linear_le (eps ∷ x ∷ y ∷ rho ∷ []) _ _ (search reads depth 20 fits 4000)
-        (order zero_le_one square (search reads depth 20 fits 4000)
-        (order (zero_le_whole 1000000) clears (search reads depth 20 fits 4000)
-        (order (zero_le_whole 1000000) (square_nn x) (search reads depth 20 fits 4000)
-        (fact (whole (pos 1000000)) is_rho (search reads depth 20 fits 4000) no_fact)))) tt in
+    linear_le (eps ∷ x ∷ y ∷ rho ∷ []) _ _ (search reads depth 20 fits 4000)
+    (order zero_le_one square (search reads depth 20 fits 4000)
+    (order (zero_le_whole 1000000) clears (search reads depth 20 fits 4000)
+    (order (zero_le_whole 1000000) (square_nn x) (search reads depth 20 fits 4000)
+    (fact (whole (pos 1000000)) is_rho (search reads depth 20 fits 4000) no_fact)))) tt in
     lt_not_le (lt_whole {a = pos 0} {b = pos 989604} (omega (arith, ints))) no
 
 -- a point at the height 4.9 is inside it
@@ -125,22 +125,22 @@ inside : (eps v x y rho : Frac) → eps *Q whole (pos 1000) ≤Q whole (pos 1) �
 inside eps v x y rho small is near middle is_rho =
     let high : HasSize (whole (pos 4902)) (y *Q whole (pos 1000)) = record {
       above = linear_le (eps ∷ v ∷ y ∷ []) _ _ (search reads depth 20 fits 4000)
-        (order (zero_le_whole 1000) near.below (search reads depth 20 fits 4000)
-        (order (zero_le_whole 2) small (search reads depth 20 fits 4000)
-        (fact (whole (pos 100)) (≈_sym is) (search reads depth 20 fits 4000) no_fact))) tt;
+          (order (zero_le_whole 1000) near.below (search reads depth 20 fits 4000)
+          (order (zero_le_whole 2) small (search reads depth 20 fits 4000)
+          (fact (whole (pos 100)) (≈_sym is) (search reads depth 20 fits 4000) no_fact))) tt;
       below = linear_le (eps ∷ v ∷ y ∷ []) _ _ (search reads depth 20 fits 4000)
-        (order (zero_le_whole 1000) near.above (search reads depth 20 fits 4000)
-        (order (zero_le_whole 2) small (search reads depth 20 fits 4000)
-        (fact (whole (pos 100)) is (search reads depth 20 fits 4000)
-        (order (zero_le_whole 9800) zero_le_one (search reads depth 20 fits 4000) no_fact)))) tt;
+          (order (zero_le_whole 1000) near.above (search reads depth 20 fits 4000)
+          (order (zero_le_whole 2) small (search reads depth 20 fits 4000)
+          (fact (whole (pos 100)) is (search reads depth 20 fits 4000)
+          (order (zero_le_whole 9800) zero_le_one (search reads depth 20 fits 4000) no_fact)))) tt;
     } in
     let side : HasSize (whole (pos 2)) (x *Q whole (pos 1000)) = record {
       above = linear_le (eps ∷ x ∷ []) _ _ (search reads depth 20 fits 4000)
-        (order (zero_le_whole 1000) middle.below (search reads depth 20 fits 4000)
-        (order (zero_le_whole 2) small (search reads depth 20 fits 4000) no_fact)) tt;
+          (order (zero_le_whole 1000) middle.below (search reads depth 20 fits 4000)
+          (order (zero_le_whole 2) small (search reads depth 20 fits 4000) no_fact)) tt;
       below = linear_le (eps ∷ x ∷ []) _ _ (search reads depth 20 fits 4000)
-        (order (zero_le_whole 1000) middle.above (search reads depth 20 fits 4000)
-        (order (zero_le_whole 2) small (search reads depth 20 fits 4000) no_fact)) tt;
+          (order (zero_le_whole 1000) middle.above (search reads depth 20 fits 4000)
+          (order (zero_le_whole 2) small (search reads depth 20 fits 4000) no_fact)) tt;
     } in
     let a = within_mul high high in
     let b = within_mul side side in

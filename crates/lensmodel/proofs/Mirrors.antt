@@ -1,5 +1,5 @@
 -- Mirrors, the sign of travel, and equal media.
-use Rattle.std.proofs.Common.{◌≡◌, ℕ, zero, suc, Bool, true, false, ◌&&◌, not, refl, sym, ◌∙◌, ap, subst, arith, ◌⊎◌, inl, inr}
+use Rattle.std.proofs.Common.{◌≡◌, ℕ, zero, suc, Bool, true, false, ◌&&◌, not, refl, sym, arith, ◌⊎◌, inl, inr}
 use Rattle.std.proofs.lemmas.Int.{ints}
 use Rattle.std.specs.Prelude.{ℤ, pos, negsuc, neg_ℤ, ◌↔◌, IsTrue, if◌then◌else◌}
 use Rattle.lensmodel.specs.Bending.{BendsBy, Stays}

@@ -35,35 +35,35 @@ module _ (eps : Frac) (small : eps *Q whole (pos 1000) ≤Q whole (pos 1)) where
     pub flat_size : (p l : Frac) → p ≈ whole (pos 0) → IsWithin eps l (p *Q n) → HasSize (whole (pos 1)) l
     flat_size p l zero h = record {
       above = le_cancel (whole (pos 1000)) (lt_whole (omega (arith, ints)))
-        (linear_le (eps ∷ n ∷ p ∷ l ∷ []) _ _ (search reads depth 20 fits 4000)
-        (order (zero_le_whole 1000) h.below (search reads depth 20 fits 4000)
-        (order zero_le_one small (search reads depth 20 fits 4000)
-        (fact (n *Q whole (pos 1000)) (≈_sym zero) (search reads depth 20 fits 4000)
-        (order (zero_le_whole 999) zero_le_one (search reads depth 20 fits 4000) no_fact)))) tt);
+          (linear_le (eps ∷ n ∷ p ∷ l ∷ []) _ _ (search reads depth 20 fits 4000)
+          (order (zero_le_whole 1000) h.below (search reads depth 20 fits 4000)
+          (order zero_le_one small (search reads depth 20 fits 4000)
+          (fact (n *Q whole (pos 1000)) (≈_sym zero) (search reads depth 20 fits 4000)
+          (order (zero_le_whole 999) zero_le_one (search reads depth 20 fits 4000) no_fact)))) tt);
       below = le_cancel (whole (pos 1000)) (lt_whole (omega (arith, ints)))
-        (linear_le (eps ∷ n ∷ p ∷ l ∷ []) _ _ (search reads depth 20 fits 4000)
-        (order (zero_le_whole 1000) h.above (search reads depth 20 fits 4000)
-        (order zero_le_one small (search reads depth 20 fits 4000)
-        (fact (n *Q whole (pos 1000)) zero (search reads depth 20 fits 4000)
-        (order (zero_le_whole 999) zero_le_one (search reads depth 20 fits 4000) no_fact)))) tt);
+          (linear_le (eps ∷ n ∷ p ∷ l ∷ []) _ _ (search reads depth 20 fits 4000)
+          (order (zero_le_whole 1000) h.above (search reads depth 20 fits 4000)
+          (order zero_le_one small (search reads depth 20 fits 4000)
+          (fact (n *Q whole (pos 1000)) zero (search reads depth 20 fits 4000)
+          (order (zero_le_whole 999) zero_le_one (search reads depth 20 fits 4000) no_fact)))) tt);
     }
 
     pub steep_size : (q m : Frac) → q *Q whole (pos 5) ≈ whole (pos 6) → IsWithin eps m (q *Q n) → HasSize (whole (pos 1)) m
     steep_size q m is h = record {
       above = le_cancel (whole (pos 1000)) (lt_whole (omega (arith, ints)))
-        (linear_le (eps ∷ n ∷ q ∷ m ∷ []) _ _ (search reads depth 20 fits 4000)
-        (order (zero_le_whole 1000) h.below (search reads depth 20 fits 4000)
-        (order zero_le_one small (search reads depth 20 fits 4000)
-        (order (zero_le_whole 60) high (search reads depth 20 fits 4000)
-        (fact (n *Q whole (pos 200)) (≈_sym is) (search reads depth 20 fits 4000)
-        (order (zero_le_whole 219) zero_le_one (search reads depth 20 fits 4000) no_fact))))) tt);
+          (linear_le (eps ∷ n ∷ q ∷ m ∷ []) _ _ (search reads depth 20 fits 4000)
+          (order (zero_le_whole 1000) h.below (search reads depth 20 fits 4000)
+          (order zero_le_one small (search reads depth 20 fits 4000)
+          (order (zero_le_whole 60) high (search reads depth 20 fits 4000)
+          (fact (n *Q whole (pos 200)) (≈_sym is) (search reads depth 20 fits 4000)
+          (order (zero_le_whole 219) zero_le_one (search reads depth 20 fits 4000) no_fact))))) tt);
       below = le_cancel (whole (pos 1000)) (lt_whole (omega (arith, ints)))
-        (linear_le (eps ∷ n ∷ q ∷ m ∷ []) _ _ (search reads depth 20 fits 4000)
-        (order (zero_le_whole 1000) h.above (search reads depth 20 fits 4000)
-        (order zero_le_one small (search reads depth 20 fits 4000)
-        (order (zero_le_whole 600) low (search reads depth 20 fits 4000)
-        (fact (n *Q whole (pos 200)) is (search reads depth 20 fits 4000)
-        (order (zero_le_whole 1599) zero_le_one (search reads depth 20 fits 4000) no_fact))))) tt);
+          (linear_le (eps ∷ n ∷ q ∷ m ∷ []) _ _ (search reads depth 20 fits 4000)
+          (order (zero_le_whole 1000) h.above (search reads depth 20 fits 4000)
+          (order zero_le_one small (search reads depth 20 fits 4000)
+          (order (zero_le_whole 600) low (search reads depth 20 fits 4000)
+          (fact (n *Q whole (pos 200)) is (search reads depth 20 fits 4000)
+          (order (zero_le_whole 1599) zero_le_one (search reads depth 20 fits 4000) no_fact))))) tt);
     }
 
   -- a plane has no sag
@@ -92,25 +92,25 @@ module _ (eps : Frac) (small : eps *Q whole (pos 1000) ≤Q whole (pos 1)) where
     pub step_size : HasSize (whole (pos 1)) t
     step_size = record {
       above = le_cancel n forwards (le_cancel (whole (pos 1000)) (lt_whole (omega (arith, ints)))
-        (linear_le (eps ∷ n ∷ z0 ∷ d ∷ z1 ∷ v ∷ t ∷ []) _ _ (search reads depth 20 fits 4000)
-        (order (zero_le_whole 1000) line.below (search reads depth 20 fits 4000)
-        (order (zero_le_whole 500) low (search reads depth 20 fits 4000)
-        (order zero_le_one small (search reads depth 20 fits 4000)
-        (order (zero_le_whole 250) high (search reads depth 20 fits 4000)
-        (fact (whole (pos 1000)) start (search reads depth 20 fits 4000)
-        (fact (whole (pos 1000)) (≈_sym apart) (search reads depth 20 fits 4000)
-        (fact (whole (pos 1000)) (≈_sym sag) (search reads depth 20 fits 4000)
-        (order (zero_le_whole 249) zero_le_one (search reads depth 20 fits 4000) no_fact)))))))) tt));
+          (linear_le (eps ∷ n ∷ z0 ∷ d ∷ z1 ∷ v ∷ t ∷ []) _ _ (search reads depth 20 fits 4000)
+          (order (zero_le_whole 1000) line.below (search reads depth 20 fits 4000)
+          (order (zero_le_whole 500) low (search reads depth 20 fits 4000)
+          (order zero_le_one small (search reads depth 20 fits 4000)
+          (order (zero_le_whole 250) high (search reads depth 20 fits 4000)
+          (fact (whole (pos 1000)) start (search reads depth 20 fits 4000)
+          (fact (whole (pos 1000)) (≈_sym apart) (search reads depth 20 fits 4000)
+          (fact (whole (pos 1000)) (≈_sym sag) (search reads depth 20 fits 4000)
+          (order (zero_le_whole 249) zero_le_one (search reads depth 20 fits 4000) no_fact)))))))) tt));
       below = le_cancel n forwards (le_cancel (whole (pos 1000)) (lt_whole (omega (arith, ints)))
-        (linear_le (eps ∷ n ∷ z0 ∷ d ∷ z1 ∷ v ∷ t ∷ []) _ _ (search reads depth 20 fits 4000)
-        (order (zero_le_whole 1000) line.above (search reads depth 20 fits 4000)
-        (order (zero_le_whole 500) low (search reads depth 20 fits 4000)
-        (order zero_le_one small (search reads depth 20 fits 4000)
-        (order (zero_le_whole 250) deep (search reads depth 20 fits 4000)
-        (fact (whole (pos 1000)) (≈_sym start) (search reads depth 20 fits 4000)
-        (fact (whole (pos 1000)) apart (search reads depth 20 fits 4000)
-        (fact (whole (pos 1000)) sag (search reads depth 20 fits 4000)
-        (order (zero_le_whole 249) zero_le_one (search reads depth 20 fits 4000) no_fact)))))))) tt));
+          (linear_le (eps ∷ n ∷ z0 ∷ d ∷ z1 ∷ v ∷ t ∷ []) _ _ (search reads depth 20 fits 4000)
+          (order (zero_le_whole 1000) line.above (search reads depth 20 fits 4000)
+          (order (zero_le_whole 500) low (search reads depth 20 fits 4000)
+          (order zero_le_one small (search reads depth 20 fits 4000)
+          (order (zero_le_whole 250) deep (search reads depth 20 fits 4000)
+          (fact (whole (pos 1000)) (≈_sym start) (search reads depth 20 fits 4000)
+          (fact (whole (pos 1000)) apart (search reads depth 20 fits 4000)
+          (fact (whole (pos 1000)) sag (search reads depth 20 fits 4000)
+          (order (zero_le_whole 249) zero_le_one (search reads depth 20 fits 4000) no_fact)))))))) tt));
     }
 
   -- and the point on the plane is near the axis

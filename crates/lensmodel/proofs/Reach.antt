@@ -1,15 +1,14 @@
 -- The steep ray reaches the plane that it doesn't leave.
-use Rattle.std.proofs.Common.{◌≡◌, ℕ, zero, suc, ◌<◌, ◌≤◌, refl, arith}
-use Rattle.std.specs.Prelude.{pos, negsuc}
-use Rattle.fixdec.specs.Frac.{Frac, ◌≤Q◌, ◌+Q◌, ◌*Q◌, ◌-Q◌, neg_Q, whole}
+use Rattle.std.proofs.Common.{ℕ, zero, suc, ◌<◌, refl, arith}
+use Rattle.std.specs.Prelude.{pos}
+use Rattle.fixdec.specs.Frac.{◌+Q◌, ◌*Q◌, ◌-Q◌, neg_Q, whole}
 use Rattle.fixdec.specs.Member.{Symbols}
-use Rattle.lensmodel.specs.Bending.{Bends}
-use Rattle.lensmodel.specs.Chains.{IsWhole, IsChainTo, Clears, ClearsAll}
+use Rattle.lensmodel.specs.Chains.{IsChainTo}
 use Rattle.lensmodel.specs.Crossing.{Transfers, Crosses}
 use Rattle.lensmodel.specs.Dispersion.{IsIndex}
 use Rattle.lensmodel.specs.Media.{medium_at}
 use Rattle.lensmodel.specs.Start.{Starts}
-use Rattle.lensmodel.specs.Values.{eps, owner, image}
+use Rattle.lensmodel.specs.Values.{eps, owner}
 use Rattle.lensmodel.proofs.Concrete.{same, at_most, less_than, near}
 use Rattle.lensmodel.specs.Worked.{glass_setup, steep_ray}
 use Rattle.lensmodel.specs.WorkedChains.{steep_chain}

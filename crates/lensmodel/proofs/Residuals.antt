@@ -101,21 +101,21 @@ bounded : (eps m n d y t : Frac) → m *Q whole (pos 5) ≈ whole (pos 3) → n 
     → IsWithin (eps +Q eps) y (whole (pos 3))
 bounded eps m n d y t is_m is_n is_d some height step = record {
   above = le_cancel (whole (pos 20)) (lt_whole (omega (arith, ints)))
-        (linear_le (eps ∷ m ∷ n ∷ d ∷ y ∷ t ∷ []) _ _ (search reads depth 20 fits 4000)
-        (order (zero_le_whole 20) height.above (search reads depth 20 fits 4000)
-        (order (zero_le_whole 15) step.above (search reads depth 20 fits 4000)
-        (order (zero_le_whole 5) some (search reads depth 20 fits 4000)
-        (fact (t *Q whole (pos 4)) is_m (search reads depth 20 fits 4000)
-        (fact (t *Q whole (pos 3)) (≈_sym is_n) (search reads depth 20 fits 4000)
-        (fact (whole (pos 15)) is_d (search reads depth 20 fits 4000) no_fact)))))) tt);
+      (linear_le (eps ∷ m ∷ n ∷ d ∷ y ∷ t ∷ []) _ _ (search reads depth 20 fits 4000)
+      (order (zero_le_whole 20) height.above (search reads depth 20 fits 4000)
+      (order (zero_le_whole 15) step.above (search reads depth 20 fits 4000)
+      (order (zero_le_whole 5) some (search reads depth 20 fits 4000)
+      (fact (t *Q whole (pos 4)) is_m (search reads depth 20 fits 4000)
+      (fact (t *Q whole (pos 3)) (≈_sym is_n) (search reads depth 20 fits 4000)
+      (fact (whole (pos 15)) is_d (search reads depth 20 fits 4000) no_fact)))))) tt);
   below = le_cancel (whole (pos 20)) (lt_whole (omega (arith, ints)))
-        (linear_le (eps ∷ m ∷ n ∷ d ∷ y ∷ t ∷ []) _ _ (search reads depth 20 fits 4000)
-        (order (zero_le_whole 20) height.below (search reads depth 20 fits 4000)
-        (order (zero_le_whole 15) step.below (search reads depth 20 fits 4000)
-        (order (zero_le_whole 5) some (search reads depth 20 fits 4000)
-        (fact (t *Q whole (pos 4)) (≈_sym is_m) (search reads depth 20 fits 4000)
-        (fact (t *Q whole (pos 3)) is_n (search reads depth 20 fits 4000)
-        (fact (whole (pos 15)) (≈_sym is_d) (search reads depth 20 fits 4000) no_fact)))))) tt);
+      (linear_le (eps ∷ m ∷ n ∷ d ∷ y ∷ t ∷ []) _ _ (search reads depth 20 fits 4000)
+      (order (zero_le_whole 20) height.below (search reads depth 20 fits 4000)
+      (order (zero_le_whole 15) step.below (search reads depth 20 fits 4000)
+      (order (zero_le_whole 5) some (search reads depth 20 fits 4000)
+      (fact (t *Q whole (pos 4)) (≈_sym is_m) (search reads depth 20 fits 4000)
+      (fact (t *Q whole (pos 3)) is_n (search reads depth 20 fits 4000)
+      (fact (whole (pos 15)) (≈_sym is_d) (search reads depth 20 fits 4000) no_fact)))))) tt);
 }
 
 slope_m : record { num = pos 3; less = 4 } *Q whole (pos 5) ≈ whole (pos 3)

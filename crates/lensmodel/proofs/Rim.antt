@@ -1,6 +1,6 @@
 -- Level rays through a plane with a rim of radius 5: a tie clears.
-use Rattle.std.proofs.Common.{ℕ, zero, suc, ◌<◌, ◌≤◌, refl, arith}
-use Rattle.std.specs.Prelude.{pos, negsuc}
+use Rattle.std.proofs.Common.{ℕ, zero, suc, ◌<◌, refl, arith}
+use Rattle.std.specs.Prelude.{pos}
 use Rattle.fixdec.specs.Frac.{Frac, ◌≈◌, ◌≤Q◌, ◌<Q◌, ◌+Q◌, ◌*Q◌, ◌-Q◌, neg_Q, whole}
 use Rattle.fixdec.specs.FracLaws.{≈_sym}
 use Rattle.fixdec.specs.Member.{Symbols}
@@ -13,7 +13,7 @@ use Rattle.lensmodel.specs.Dispersion.{IsIndex}
 use Rattle.lensmodel.specs.Media.{medium_at}
 use Rattle.lensmodel.specs.Residual.{IsWithin}
 use Rattle.lensmodel.specs.Start.{Starts}
-use Rattle.lensmodel.specs.Values.{curvature, conic_factor, eps, owner, image}
+use Rattle.lensmodel.specs.Values.{curvature, conic_factor, eps, owner}
 use Rattle.lensmodel.specs.Worked.{rim_setup, level_ray, whole_decimal}
 use Rattle.lensmodel.specs.WorkedChains.{level_chain}
 use Rattle.lensmodel.proofs.Along.{keep, within_along}

@@ -1,9 +1,9 @@
 -- Total reflection: a ray of slope 6/5 doesn't leave glass of index 3/2 through a plane.
-use Rattle.std.proofs.Common.{◌≡◌, refl, zero, suc, [], ◌∷◌, arith}
+use Rattle.std.proofs.Common.{refl, [], ◌∷◌, arith}
 use Rattle.std.proofs.lemmas.Int.{ints}
-use Rattle.std.specs.Prelude.{pos, negsuc, ◌≤ℤ◌}
+use Rattle.std.specs.Prelude.{pos}
 use Rattle.fixdec.specs.Decimal.{value}
-use Rattle.fixdec.specs.Frac.{Frac, ◌≈◌, ◌≤Q◌, ◌<Q◌, ◌+Q◌, ◌*Q◌, ◌-Q◌, neg_Q, whole}
+use Rattle.fixdec.specs.Frac.{Frac, ◌≈◌, ◌≤Q◌, ◌<Q◌, ◌+Q◌, ◌*Q◌, ◌-Q◌, whole}
 use Rattle.fixdec.specs.FracLaws.{≈_sym, ≈_trans}
 use Rattle.fixdec.specs.Linear.{linear, linear_le, name, fact, order, no_fact, reads}
 use Rattle.fixdec.specs.Member.{Symbols}
@@ -58,21 +58,20 @@ module _ (eps : Frac) (small : eps *Q whole (pos 1000) ≤Q whole (pos 1)) where
         (order (zero_le_whole 20) small (search reads depth 20 fits 4000)
         (order (zero_le_whole 2819) zero_le_one (search reads depth 20 fits 4000) no_fact))))) tt))
 
-
   -- then Snell's law leaves no cosine of refraction
   pub none_refracts : (index f after cos cos' : Frac) → IsWithin eps (index *Q index) f → f *Q whole (pos 4) ≈ whole (pos 9)
       → after ≈ whole (pos 1) → cos *Q cos *Q whole (pos 2) ≤Q whole (pos 1)
       → IsWithin eps (after *Q after *Q (cos' *Q cos')) (after *Q after -Q index *Q index *Q (whole (pos 1) -Q cos *Q cos)) → ⊥
   none_refracts index f after cos cos' square formula air low snell =
       let no : whole (pos 247) ≤Q whole (pos 0) =
-          linear_le (eps ∷ index ∷ f ∷ after ∷ cos ∷ cos' ∷ []) _ _ (search reads depth 20 fits 4000)
-          (order (zero_le_whole 2000) snell.below (search reads depth 20 fits 4000)
-          (order (zero_le_whole 2000) (mul_nn (square_nn after) (square_nn cos')) (search reads depth 20 fits 4000)
-          (order (mul_nn (square_nn index) (zero_le_whole 1000)) low (search reads depth 20 fits 4000)
-          (order (zero_le_whole 1000) square.above (search reads depth 20 fits 4000)
-          (order (zero_le_whole 3) small (search reads depth 20 fits 4000)
-          (fact ((after +Q whole (pos 1)) *Q whole (pos 2000)) (≈_sym air) (search reads depth 20 fits 4000)
-          (fact (whole (pos 250)) formula (search reads depth 20 fits 4000) no_fact))))))) tt
+      linear_le (eps ∷ index ∷ f ∷ after ∷ cos ∷ cos' ∷ []) _ _ (search reads depth 20 fits 4000)
+      (order (zero_le_whole 2000) snell.below (search reads depth 20 fits 4000)
+      (order (zero_le_whole 2000) (mul_nn (square_nn after) (square_nn cos')) (search reads depth 20 fits 4000)
+      (order (mul_nn (square_nn index) (zero_le_whole 1000)) low (search reads depth 20 fits 4000)
+      (order (zero_le_whole 1000) square.above (search reads depth 20 fits 4000)
+      (order (zero_le_whole 3) small (search reads depth 20 fits 4000)
+      (fact ((after +Q whole (pos 1)) *Q whole (pos 2000)) (≈_sym air) (search reads depth 20 fits 4000)
+      (fact (whole (pos 250)) formula (search reads depth 20 fits 4000) no_fact))))))) tt
       in lt_not_le (lt_whole {a = pos 0} {b = pos 247} (omega (arith, ints))) no
 
 -- the square of the glass's index is 9/4

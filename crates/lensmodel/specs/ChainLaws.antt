@@ -1,5 +1,5 @@
 -- Laws of chains, as statements.
-use Rattle.std.specs.Prelude.{◌≡◌, ℕ, suc, ◌+◌, ◌<◌, ◌≤◌, ◌↔◌, not, neg_ℤ, None, IsTrue}
+use Rattle.std.specs.Prelude.{◌≡◌, ℕ, suc, ◌<◌, ◌≤◌, ◌↔◌, not, neg_ℤ, None, IsTrue}
 use Rattle.fixdec.specs.Decimal.{value}
 use Rattle.fixdec.specs.Frac.{◌≈◌}
 use Rattle.fixdec.specs.Member.{Symbols}

@@ -86,14 +86,13 @@ glass_setup =
 abbrev pub steep_ray : Launch
 steep_ray = Plain zero_decimal zero_decimal zero_decimal record { mant = pos 12; exp = negsuc 0 }
 
--- the plane with a rim of radius 5
+-- a plane in air with a rim of radius 5, 4 before the next vertex
+abbrev pub rim_plane : Surface
+rim_plane = record plane { thick = Some (whole_decimal (pos 4)); semi = Some (whole_decimal (pos 5)); rim = true }
+
+-- that plane, and the image
 abbrev pub rim_setup : Setup
-rim_setup =
-    setup_of
-    (far_object
-    ∷ record plane { thick = Some (whole_decimal (pos 4)); semi = Some (whole_decimal (pos 5)); rim = true }
-    ∷ plane ∷ [])
-    (Air ∷ Air ∷ [])
+rim_setup = setup_of (far_object ∷ rim_plane ∷ plane ∷ []) (Air ∷ Air ∷ [])
 
 -- along the axis, at the height y
 abbrev pub level_ray : Decimal → Launch

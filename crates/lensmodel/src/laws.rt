@@ -10,37 +10,32 @@ pub fn chain_fronts()
     ensures whole_reaches { WholeReaches }
     ensures whole_leaves { WholeLeaves }
     ensures next { ReachesNext }
-{
-}
+{}
 
 /// Without a box the values are the written decimals.
 pub fn written_values()
     ensures curvature { CurvatureWritten }
     ensures distance { DistanceWritten }
     ensures index { IndexWritten }
-{
-}
+{}
 
 /// Between equal media the direction stays.
 pub fn equal_media_keep()
     ensures { DirectionStays }
-{
-}
+{}
 
 /// A mirror turns the sign of travel, and nothing else does.
 pub fn mirrors_turn()
     ensures turns { TurnsAtMirrors }
     ensures stays { StaysElsewhere }
-{
-}
+{}
 
 /// The words `vignetted`, `outside` and `tir` exclude the word `passes` of a whole chain.
 pub fn words_exclude()
     ensures vignetted { VignettedExcludes }
     ensures outside { OutsideExcludes }
     ensures tir { TirExcludes }
-{
-}
+{}
 
 /// Equal fractions may stand for one another, however they are written, and those past a surface
 /// don't matter to it.
@@ -48,8 +43,7 @@ pub fn fractions_exchange()
     ensures reaches { ReachesAlike }
     ensures leaves { LeavesAlike }
     ensures clears { ClearsAlike }
-{
-}
+{}
 
 /// With every symbol 0 the values of a setup with a box are those of the setup without it.
 pub fn values_at_rest()
@@ -57,8 +51,7 @@ pub fn values_at_rest()
     ensures curvature { CurvatureAtRest }
     ensures distance { DistanceAtRest }
     ensures index { IndexAtRest }
-{
-}
+{}
 
 /// A box holds the lens without it: its chains are those with every symbol 0, where the box leaves
 /// equal media equal, as each box without a tolerance on index does.
@@ -66,5 +59,4 @@ pub fn box_holds_lens()
     ensures keeps { IndexFreeKeeps }
     ensures holds { BoxHoldsLens }
     ensures only { LensAtRest }
-{
-}
+{}

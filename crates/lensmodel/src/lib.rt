@@ -15,6 +15,7 @@ pub mod row;
 pub mod script;
 pub mod seen;
 pub mod setup;
+mod single;
 pub mod status;
 pub mod surface;
 pub mod tolerance;
