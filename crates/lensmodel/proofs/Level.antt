@@ -36,7 +36,7 @@ module _ (eps : Frac) (small : eps *Q whole (pos 1000) ≤Q whole (pos 1)) where
       (order (zero_le_whole 2996) zero_le_one (search reads depth 20 fits 4000) no_fact)))) tt))
 
 -- the cosines across it
-across : (eps p n l : Frac) → p ≈ whole (pos 0) → IsWithin eps l (p *Q n) → HasSize eps l
+pub across : (eps p n l : Frac) → p ≈ whole (pos 0) → IsWithin eps l (p *Q n) → HasSize eps l
 across eps p n l flat h = record {
   above = linear_le (eps ∷ p ∷ n ∷ l ∷ []) _ _ (search reads depth 20 fits 4000)
       (order zero_le_one h.below (search reads depth 20 fits 4000)

@@ -16,4 +16,9 @@ pub mod Residuals
 pub mod Rest
 pub mod Rim
 pub mod Slanted
+pub mod SlantedRow
+pub mod SlantedVertex
+pub mod Slim
+pub mod SlimEnds
+pub mod SlimRho
 pub mod Steep

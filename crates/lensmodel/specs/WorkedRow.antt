@@ -1,8 +1,10 @@
 -- The printed row of a worked ray.
-use Rattle.std.specs.Prelude.{ℤ, pos, negsuc, Some, None}
+use Rattle.std.specs.Prelude.{ℤ, pos, negsuc, [], ◌∷◌, Some, None}
 use Rattle.fixdec.specs.Ends.{Ends}
 use Rattle.lensmodel.specs.declared.row.Heading.{Heading}
 use Rattle.lensmodel.specs.declared.row.Place.{Place}
+use Rattle.lensmodel.specs.declared.row.Row.{Row}
+use Rattle.lensmodel.specs.declared.row.Word.TheVariants.{Passes}
 
 -- millionths from a to b
 abbrev pub span : ℤ → ℤ → Ends
@@ -33,3 +35,7 @@ slanted_image = record {
   path = span (pos 4999985) (pos 5000016);
   heading = None;
 }
+
+-- the printed row of the slanted ray
+abbrev pub slanted_row : Row
+slanted_row = record { scale = 6; word = Passes; places = record { items = slanted_vertex ∷ slanted_image ∷ [] } }

@@ -20,3 +20,4 @@ pub mod status;
 pub mod surface;
 pub mod tolerance;
 pub mod worked;
+pub mod worked_row;
