@@ -1,33 +1,27 @@
 -- The printed row of a slanted ray holds every chain.
-use Rattle.std.proofs.Common.{◌≡◌, ℕ, zero, suc, ◌<◌, ◌≤◌, refl, ap, subst, arith, [], ◌∷◌}
+use Rattle.std.proofs.Common.{◌≡◌, zero, suc, refl, ap, subst, arith}
 use Rattle.std.proofs.lemmas.Int.{ints}
-use Rattle.std.specs.Prelude.{pos, negsuc, slice_get, Option, Some, None}
-use Rattle.fixdec.specs.Decimal.{value}
-use Rattle.fixdec.specs.Frac.{Frac, ◌≈◌, ◌≤Q◌, ◌+Q◌, ◌*Q◌, ◌-Q◌, neg_Q, whole}
+use Rattle.std.specs.Prelude.{pos, negsuc, Option, Some, None}
+use Rattle.fixdec.specs.Frac.{◌≈◌, ◌≤Q◌, ◌+Q◌, ◌*Q◌, whole}
 use Rattle.fixdec.specs.FracLaws.{≈_sym, ≈_trans}
-use Rattle.fixdec.specs.Linear.{linear, no_fact, reads}
-use Rattle.fixdec.specs.Member.{IsMember, Symbols}
-use Rattle.fixdec.specs.Within.{IsWithin as HasSize, within_mul, within_more, within_same, within_to, within_whole}
+use Rattle.fixdec.specs.Member.{IsMember}
+use Rattle.fixdec.specs.Within.{IsWithin as HasSize, within_same, within_to}
 use Rattle.lensmodel.specs.Bending.{Stays}
 use Rattle.lensmodel.specs.Chain.{Chain, index_behind}
-use Rattle.lensmodel.specs.Chains.{IsChainTo, IsChainPast}
+use Rattle.lensmodel.specs.Chains.{IsChainTo}
 use Rattle.lensmodel.specs.Claims.{HoldsPlace, HoldsHeading, HoldsAt, Encloses, WordHolds, RowHolds}
 use Rattle.lensmodel.specs.Crossing.{Transfers, Crosses}
 use Rattle.lensmodel.specs.Residual.{IsWithin}
-use Rattle.lensmodel.specs.Start.{Starts, slope_x, slope_y}
-use Rattle.lensmodel.specs.Values.{zero_decimal, curvature, distance, eps}
+use Rattle.lensmodel.specs.Values.{distance, eps}
 use Rattle.lensmodel.specs.Worked.{plane_setup, slanted_ray}
-use Rattle.lensmodel.specs.WorkedRow.{span, slanted_vertex, slanted_heading, slanted_image, slanted_row}
-use Rattle.lensmodel.specs.declared.row.Place.{Place}
+use Rattle.lensmodel.specs.WorkedRow.{span, slanted_image, slanted_row}
 use Rattle.lensmodel.specs.declared.row.Word.TheVariants.{Passes}
 use Rattle.lensmodel.proofs.Along.{keep, plus, times, within_along}
 use Rattle.lensmodel.proofs.Boxes.{index_written}
-use Rattle.lensmodel.proofs.Concrete.{same, at_most}
 use Rattle.lensmodel.proofs.Fronts.{reaches_before}
-use Rattle.lensmodel.proofs.Level.{across}
-use Rattle.lensmodel.proofs.Slim.{along_high, along_low, sag_size, first_step, shifted, run, run_high, run_low}
+use Rattle.lensmodel.proofs.Slim.{sag_size, run, run_high, run_low}
 use Rattle.lensmodel.proofs.SlantedVertex.{some, small, slope, last_flat, apart, once, point, high, low, l_size, sag, x_size, y_size, path_size, at_vertex, behind_vertex}
-use Rattle.lensmodel.proofs.SlimEnds.{member_same, member_more, near_zero, rho_at_vertex, heading_m, m_size, image_x, image_y, image_path}
+use Rattle.lensmodel.proofs.SlimEnds.{member_more, near_zero, image_x, image_y, image_path}
 use Rattle.lensmodel.proofs.SlimRho.{rho_at_image}
 
 -- up to the image

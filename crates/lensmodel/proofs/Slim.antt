@@ -2,7 +2,7 @@
 use Rattle.std.proofs.Common.{[], ◌∷◌, arith}
 use Rattle.std.proofs.lemmas.Int.{ints}
 use Rattle.std.specs.Prelude.{pos}
-use Rattle.fixdec.specs.Frac.{Frac, ◌≈◌, ◌≤Q◌, ◌<Q◌, ◌+Q◌, ◌*Q◌, neg_Q, whole}
+use Rattle.fixdec.specs.Frac.{Frac, ◌≈◌, ◌≤Q◌, ◌<Q◌, ◌+Q◌, ◌*Q◌, whole}
 use Rattle.fixdec.specs.FracLaws.{≈_sym}
 use Rattle.fixdec.specs.Linear.{linear_le, fact, order, no_fact, reads}
 use Rattle.fixdec.specs.OrderLaws.{zero_le_one, zero_le_whole, le_cancel, le_of_squares, mul_nn, lt_whole, le_of_lt}
@@ -50,26 +50,26 @@ module _ (eps : Frac) (some : whole (pos 0) ≤Q eps) (small : eps *Q whole (pos
       → z1 ≈ v → HasSize eps v → IsWithin eps (z0 +Q n *Q t) (d +Q z1) → HasSize (eps *Q whole (pos 4)) t
   first_step n z0 d z1 v t forwards low start apart sag flat line =
       let half : whole (pos 1) ≤Q n *Q whole (pos 2) = le_cancel (whole (pos 500000)) (lt_whole (omega (arith, ints)))
-        (linear_le (n ∷ []) _ _ (search reads depth 20 fits 4000)
-        (order zero_le_one low (search reads depth 20 fits 4000)
-        (order (zero_le_whole 299999) zero_le_one (search reads depth 20 fits 4000) no_fact)) tt) in
+      (linear_le (n ∷ []) _ _ (search reads depth 20 fits 4000)
+      (order zero_le_one low (search reads depth 20 fits 4000)
+      (order (zero_le_whole 299999) zero_le_one (search reads depth 20 fits 4000) no_fact)) tt) in
       record {
         above = le_cancel n forwards
-        (linear_le (eps ∷ n ∷ z0 ∷ d ∷ z1 ∷ v ∷ t ∷ []) _ _ (search reads depth 20 fits 4000)
-        (order zero_le_one line.below (search reads depth 20 fits 4000)
-        (order (mul_nn some (zero_le_whole 2)) half (search reads depth 20 fits 4000)
-        (order zero_le_one flat.above (search reads depth 20 fits 4000)
-        (fact (whole (pos 1)) start (search reads depth 20 fits 4000)
-        (fact (whole (pos 1)) (≈_sym apart) (search reads depth 20 fits 4000)
-        (fact (whole (pos 1)) (≈_sym sag) (search reads depth 20 fits 4000) no_fact)))))) tt);
+            (linear_le (eps ∷ n ∷ z0 ∷ d ∷ z1 ∷ v ∷ t ∷ []) _ _ (search reads depth 20 fits 4000)
+            (order zero_le_one line.below (search reads depth 20 fits 4000)
+            (order (mul_nn some (zero_le_whole 2)) half (search reads depth 20 fits 4000)
+            (order zero_le_one flat.above (search reads depth 20 fits 4000)
+            (fact (whole (pos 1)) start (search reads depth 20 fits 4000)
+            (fact (whole (pos 1)) (≈_sym apart) (search reads depth 20 fits 4000)
+            (fact (whole (pos 1)) (≈_sym sag) (search reads depth 20 fits 4000) no_fact)))))) tt);
         below = le_cancel n forwards
-        (linear_le (eps ∷ n ∷ z0 ∷ d ∷ z1 ∷ v ∷ t ∷ []) _ _ (search reads depth 20 fits 4000)
-        (order zero_le_one line.above (search reads depth 20 fits 4000)
-        (order (mul_nn some (zero_le_whole 2)) half (search reads depth 20 fits 4000)
-        (order zero_le_one flat.below (search reads depth 20 fits 4000)
-        (fact (whole (pos 1)) (≈_sym start) (search reads depth 20 fits 4000)
-        (fact (whole (pos 1)) apart (search reads depth 20 fits 4000)
-        (fact (whole (pos 1)) sag (search reads depth 20 fits 4000) no_fact)))))) tt);
+            (linear_le (eps ∷ n ∷ z0 ∷ d ∷ z1 ∷ v ∷ t ∷ []) _ _ (search reads depth 20 fits 4000)
+            (order zero_le_one line.above (search reads depth 20 fits 4000)
+            (order (mul_nn some (zero_le_whole 2)) half (search reads depth 20 fits 4000)
+            (order zero_le_one flat.below (search reads depth 20 fits 4000)
+            (fact (whole (pos 1)) (≈_sym start) (search reads depth 20 fits 4000)
+            (fact (whole (pos 1)) apart (search reads depth 20 fits 4000)
+            (fact (whole (pos 1)) sag (search reads depth 20 fits 4000) no_fact)))))) tt);
       }
 
   -- what is moved by so little is still small
@@ -92,19 +92,19 @@ module _ (eps : Frac) (some : whole (pos 0) ≤Q eps) (small : eps *Q whole (pos
     pub run : IsWithin (eps *Q whole (pos 3)) (n *Q t) (whole (pos 4))
     run = record {
       above = linear_le (eps ∷ n ∷ z1 ∷ d ∷ z2 ∷ v1 ∷ v2 ∷ t ∷ []) _ _ (search reads depth 20 fits 4000)
-        (order zero_le_one line.above (search reads depth 20 fits 4000)
-        (order zero_le_one flat1.above (search reads depth 20 fits 4000)
-        (order zero_le_one flat2.below (search reads depth 20 fits 4000)
-        (fact (whole (pos 1)) (≈_sym first) (search reads depth 20 fits 4000)
-        (fact (whole (pos 1)) apart (search reads depth 20 fits 4000)
-        (fact (whole (pos 1)) second (search reads depth 20 fits 4000) no_fact)))))) tt;
+          (order zero_le_one line.above (search reads depth 20 fits 4000)
+          (order zero_le_one flat1.above (search reads depth 20 fits 4000)
+          (order zero_le_one flat2.below (search reads depth 20 fits 4000)
+          (fact (whole (pos 1)) (≈_sym first) (search reads depth 20 fits 4000)
+          (fact (whole (pos 1)) apart (search reads depth 20 fits 4000)
+          (fact (whole (pos 1)) second (search reads depth 20 fits 4000) no_fact)))))) tt;
       below = linear_le (eps ∷ n ∷ z1 ∷ d ∷ z2 ∷ v1 ∷ v2 ∷ t ∷ []) _ _ (search reads depth 20 fits 4000)
-        (order zero_le_one line.below (search reads depth 20 fits 4000)
-        (order zero_le_one flat1.below (search reads depth 20 fits 4000)
-        (order zero_le_one flat2.above (search reads depth 20 fits 4000)
-        (fact (whole (pos 1)) first (search reads depth 20 fits 4000)
-        (fact (whole (pos 1)) (≈_sym apart) (search reads depth 20 fits 4000)
-        (fact (whole (pos 1)) (≈_sym second) (search reads depth 20 fits 4000) no_fact)))))) tt;
+          (order zero_le_one line.below (search reads depth 20 fits 4000)
+          (order zero_le_one flat1.below (search reads depth 20 fits 4000)
+          (order zero_le_one flat2.above (search reads depth 20 fits 4000)
+          (fact (whole (pos 1)) first (search reads depth 20 fits 4000)
+          (fact (whole (pos 1)) (≈_sym apart) (search reads depth 20 fits 4000)
+          (fact (whole (pos 1)) (≈_sym second) (search reads depth 20 fits 4000) no_fact)))))) tt;
     }
 
     -- its length is between 4.99999 and 5.00001

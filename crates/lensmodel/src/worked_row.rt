@@ -22,20 +22,39 @@ pub fn slanted_plane_row() -> Row
         path: Span { lo: -4, hi: 4 },
         heading: Some(Heading {
             l: Span { lo: -1, hi: 1 },
-            m: Span { lo: 599_998, hi: 600_002 },
-            n: Span { lo: 799_999, hi: 800_001 },
+            m: Span {
+                lo: 599_998,
+                hi: 600_002,
+            },
+            n: Span {
+                lo: 799_999,
+                hi: 800_001,
+            },
         }),
     };
     let image = Place {
-        rho: Span { lo: 8_999_862, hi: 9_000_140 },
+        rho: Span {
+            lo: 8_999_862,
+            hi: 9_000_140,
+        },
         x: Span { lo: -14, hi: 14 },
-        y: Span { lo: 2_999_977, hi: 3_000_023 },
+        y: Span {
+            lo: 2_999_977,
+            hi: 3_000_023,
+        },
         z: Span { lo: -1, hi: 1 },
-        path: Span { lo: 4_999_985, hi: 5_000_016 },
+        path: Span {
+            lo: 4_999_985,
+            hi: 5_000_016,
+        },
         heading: None,
     };
     let mut places: ArrayVec<Place, 64> = ArrayVec::new();
     places.push(vertex);
     places.push(image);
-    Row { scale: 6, word: Word::Passes, places }
+    Row {
+        scale: 6,
+        word: Word::Passes,
+        places,
+    }
 }
