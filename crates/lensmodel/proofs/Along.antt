@@ -1,8 +1,8 @@
 -- Equal fractions may stand for one another in the parts of a chain.
-use Rattle.std.proofs.Common.{◌≡◌, ℕ, suc, true, false, List, [], ◌∷◌}
-use Rattle.std.specs.Prelude.{pos, Bool, Option, Some, None}
+use Rattle.std.proofs.Common.{ℕ, suc, true, false, List, [], ◌∷◌}
+use Rattle.std.specs.Prelude.{Bool, Option, Some, None}
 use Rattle.fixdec.specs.Decimal.{Decimal}
-use Rattle.fixdec.specs.Frac.{Frac, ◌≈◌, ◌≤Q◌, ◌+Q◌, ◌-Q◌, ◌*Q◌, whole}
+use Rattle.fixdec.specs.Frac.{Frac, ◌≈◌, ◌+Q◌, ◌-Q◌, ◌*Q◌}
 use Rattle.fixdec.specs.FracLaws.{Q-IsRing, ≈_refl, ≈_sym, ≈_trans}
 use Rattle.fixdec.specs.OrderLaws.{le_along, le_same_left, lt_along}
 use Rattle.lensmodel.specs.Chains.{IsInside}

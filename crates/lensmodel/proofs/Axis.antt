@@ -1,5 +1,5 @@
 -- The chain along the axis of a sphere into glass.
-use Rattle.std.proofs.Common.{◌≡◌, ℕ, zero, suc, ◌<◌, ◌≤◌, refl, arith}
+use Rattle.std.proofs.Common.{ℕ, zero, suc, ◌<◌, refl, arith}
 use Rattle.std.specs.Prelude.{pos}
 use Rattle.fixdec.specs.Frac.{◌+Q◌, ◌*Q◌, ◌-Q◌, neg_Q, whole}
 use Rattle.fixdec.specs.Member.{Symbols}
@@ -10,11 +10,12 @@ use Rattle.lensmodel.specs.Dispersion.{IsIndex, IsFormula}
 use Rattle.lensmodel.specs.Media.{medium_at}
 use Rattle.lensmodel.specs.Start.{Starts}
 use Rattle.lensmodel.specs.Values.{eps, owner}
-use Rattle.lensmodel.specs.Worked.{flat_glass, sphere_setup, axis_ray, axis_chain}
+use Rattle.lensmodel.specs.Worked.{flat_glass, sphere_setup, axis_ray}
+use Rattle.lensmodel.specs.WorkedChains.{axis_chain}
 use Rattle.lensmodel.proofs.Concrete.{same, at_most, less_than, near}
 
 -- the square of the glass's index is 9/4 at half a micrometre
-formula : IsFormula flat_glass (record { num = pos 25; less = 99 }) (record { num = pos 9; less = 3 })
+pub formula : IsFormula flat_glass (record { num = pos 25; less = 99 }) (record { num = pos 9; less = 3 })
 unfolding ◌+Q◌ ◌*Q◌ ◌-Q◌ neg_Q whole
 formula = record {
   schott = λ _. record { r = whole (pos 4); inverse = same refl; sum = same refl };

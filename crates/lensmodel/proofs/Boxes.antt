@@ -1,6 +1,6 @@
 -- The values of a setup without a box.
 use Rattle.std.proofs.Common.{◌≡◌, ℕ, sym, subst}
-use Rattle.std.specs.Prelude.{pos, Option, None}
+use Rattle.std.specs.Prelude.{pos, None}
 use Rattle.fixdec.specs.Frac.{Frac, ◌≈◌, ◌+Q◌, whole}
 use Rattle.fixdec.specs.FracLaws.{Q-IsRing, ≈_refl, ≈_trans}
 use Rattle.fixdec.specs.Member.{Symbols}

@@ -1,5 +1,5 @@
 -- Chains with equal fractions, and the lens within its box.
-use Rattle.std.proofs.Common.{◌≡◌, ℕ, zero, suc, ◌<◌, ◌≤◌, Bool, true, false, arith, subst}
+use Rattle.std.proofs.Common.{◌≡◌, ℕ, suc, ◌≤◌, Bool, true, false, arith, subst}
 use Rattle.std.specs.Prelude.{Option}
 use Rattle.fixdec.specs.Frac.{Frac, ◌≈◌}
 use Rattle.fixdec.specs.FracLaws.{≈_sym, ≈_trans}
@@ -8,7 +8,7 @@ use Rattle.lensmodel.specs.Bending.{IsNormal, Refracts, Reflects, Stays, BendsBy
 use Rattle.lensmodel.specs.Chain.{Chain, index_behind}
 use Rattle.lensmodel.specs.Chains.{IsChainTo, IsChainPast}
 use Rattle.lensmodel.specs.Crossing.{Transfers, Crosses, IsSag, IsOnSide}
-use Rattle.lensmodel.specs.Exchange.{IsSameAt, IsSameUpTo}
+use Rattle.lensmodel.specs.Exchange.{IsSameAt}
 use Rattle.lensmodel.specs.Media.{equal_media, medium_at}
 use Rattle.lensmodel.specs.Start.{Starts}
 use Rattle.lensmodel.specs.Values.{surface_at, curvature, distance, coefficients_of, coefficients, reflects, eps}

@@ -1,12 +1,14 @@
 -- Mirrors, the sign of travel, and equal media.
-use Rattle.std.proofs.Common.{◌≡◌, ℕ, zero, suc, Bool, true, false, ◌&&◌, not, refl, sym, ◌∙◌, ap, subst, arith, ◌⊎◌, inl, inr}
+use Rattle.std.proofs.Common.{◌≡◌, ℕ, zero, suc, Bool, true, false, ◌&&◌, not, slice_index_or, refl, sym, ap, arith, ◌⊎◌, inl, inr}
 use Rattle.std.proofs.lemmas.Int.{ints}
 use Rattle.std.specs.Prelude.{ℤ, pos, negsuc, neg_ℤ, ◌↔◌, IsTrue, if◌then◌else◌}
+use Rattle.fixdec.specs.Frac.{◌+Q◌}
 use Rattle.lensmodel.specs.Bending.{BendsBy, Stays}
 use Rattle.lensmodel.specs.Chain.{Chain}
-use Rattle.lensmodel.specs.ChainLaws.{DirectionStays, TurnsAtMirrors, StaysElsewhere}
+use Rattle.lensmodel.specs.ChainLaws.{DirectionStays, TurnsAtMirrors, StaysElsewhere, MirrorsKeepMedium, MirrorsKeepIndex}
 use Rattle.lensmodel.specs.Media.{equal_media, same_medium, medium_at, has_tolerance}
-use Rattle.lensmodel.specs.Values.{reflects, travel, owner, tolerances}
+use Rattle.lensmodel.specs.Values.{reflects, travel, owner, tolerances, deviation}
+use Rattle.lensmodel.specs.declared.glass.Medium.TheVariants.{Air}
 use Rattle.lensmodel.specs.declared.setup.Setup.{Setup}
 use Rattle.lensmodel.specs.declared.tolerance.TolKind.TheVariants.{Indx}
 
@@ -58,3 +60,15 @@ direction_stays s ray c j e h =
     (not_mirror (reflects s (suc j)) (same_medium (medium_at s j) (medium_at s (suc j)))
     (not (has_tolerance (tolerances s.toler) Indx (owner s j))) (not (has_tolerance (tolerances s.toler) Indx (suc j))) e)
     e (h.leaves j (omega arith))
+
+-- behind a mirror the owner of the medium is the one before it
+owner_by : (mirror : Bool) (m n : ℕ) → IsTrue mirror → (if mirror then m else n) ≡ m
+owner_by true m n e = refl
+owner_by false m n e = absurd (cc)
+
+pub mirrors_keep_medium : MirrorsKeepMedium
+mirrors_keep_medium s j e = ap (λ k. slice_index_or s.media.items k Air) (owner_by (reflects s (suc j)) (owner s j) (suc j) e)
+
+pub mirrors_keep_index : MirrorsKeepIndex
+mirrors_keep_index s c j e =
+    ap (λ k. c.glass_index k +Q deviation s c.symbols Indx k) (owner_by (reflects s (suc j)) (owner s j) (suc j) e)

@@ -1,5 +1,5 @@
 -- The chain of a slanted ray through a plane, and its place in the printed intervals.
-use Rattle.std.proofs.Common.{◌≡◌, ℕ, zero, suc, ◌<◌, ◌≤◌, refl, arith}
+use Rattle.std.proofs.Common.{ℕ, zero, suc, ◌<◌, refl, arith}
 use Rattle.std.specs.Prelude.{pos}
 use Rattle.fixdec.specs.Frac.{◌+Q◌, ◌*Q◌, ◌-Q◌, neg_Q, whole}
 use Rattle.fixdec.specs.Member.{Symbols}
@@ -11,7 +11,9 @@ use Rattle.lensmodel.specs.Dispersion.{IsIndex}
 use Rattle.lensmodel.specs.Media.{medium_at}
 use Rattle.lensmodel.specs.Start.{Starts}
 use Rattle.lensmodel.specs.Values.{eps, owner}
-use Rattle.lensmodel.specs.Worked.{plane_setup, slanted_ray, slanted_chain, slanted_vertex, slanted_heading, slanted_image}
+use Rattle.lensmodel.specs.Worked.{plane_setup, slanted_ray}
+use Rattle.lensmodel.specs.WorkedChains.{slanted_chain}
+use Rattle.lensmodel.specs.WorkedRow.{slanted_vertex, slanted_heading, slanted_image}
 use Rattle.lensmodel.proofs.Concrete.{same, at_most, less_than, near, inside}
 
 module _ (symbols : Symbols) where

@@ -1,5 +1,5 @@
 -- Laws of chains, as statements.
-use Rattle.std.specs.Prelude.{◌≡◌, ℕ, suc, ◌+◌, ◌<◌, ◌≤◌, ◌↔◌, not, neg_ℤ, None, IsTrue}
+use Rattle.std.specs.Prelude.{◌≡◌, ℕ, suc, ◌<◌, ◌≤◌, ◌↔◌, not, neg_ℤ, None, IsTrue}
 use Rattle.fixdec.specs.Decimal.{value}
 use Rattle.fixdec.specs.Frac.{◌≈◌}
 use Rattle.fixdec.specs.Member.{Symbols}
@@ -8,7 +8,7 @@ use Rattle.lensmodel.specs.Chain.{Chain, index_behind}
 use Rattle.lensmodel.specs.Chains.{IsChainTo, IsChainPast, IsWhole, ClearsAll}
 use Rattle.lensmodel.specs.Claims.{WordHolds}
 use Rattle.lensmodel.specs.Crossing.{Transfers, Crosses}
-use Rattle.lensmodel.specs.Media.{equal_media}
+use Rattle.lensmodel.specs.Media.{medium_at, equal_media}
 use Rattle.lensmodel.specs.Values.{surface_at, image, reflects, owner, travel, curvature, distance, written_thickness}
 use Rattle.lensmodel.specs.declared.launch.Launch.{Launch}
 use Rattle.lensmodel.specs.declared.row.Word.TheVariants.{Vignetted, Outside, Tir}
@@ -59,6 +59,14 @@ TurnsAtMirrors = (s : Setup) (j : ℕ) → (travel s (suc j) ≡ neg_ℤ (travel
 -- the sign of travel stays elsewhere, and only there
 abbrev pub StaysElsewhere : Type 0
 StaysElsewhere = (s : Setup) (j : ℕ) → (travel s (suc j) ≡ travel s j) ↔ IsTrue (not (reflects s (suc j)))
+
+-- behind a mirror is the medium before it
+abbrev pub MirrorsKeepMedium : Type 0
+MirrorsKeepMedium = (s : Setup) (j : ℕ) → IsTrue (reflects s (suc j)) → medium_at s (suc j) ≡ medium_at s j
+
+-- with the same index
+abbrev pub MirrorsKeepIndex : Type 0
+MirrorsKeepIndex = (s : Setup) (c : Chain) (j : ℕ) → IsTrue (reflects s (suc j)) → index_behind s c (suc j) ≡ index_behind s c j
 
 -- where no chain clears surface j, no whole chain clears every rim
 abbrev pub VignettedExcludes : Type 0

@@ -1,11 +1,7 @@
--- Worked setups, rays and chains: small numbers that can be checked by hand.
-use Rattle.std.specs.Prelude.{ℕ, zero, suc, ℤ, pos, negsuc, List, [], ◌∷◌, Option, Some, None}
+-- Worked setups and rays: small numbers that can be checked by hand.
+use Rattle.std.specs.Prelude.{ℕ, ℤ, pos, negsuc, true, List, [], ◌∷◌, Some, None}
 use Rattle.arrayvec.specs.ArrayVec.{ArrayVec}
 use Rattle.fixdec.specs.Decimal.{Decimal}
-use Rattle.fixdec.specs.Ends.{Ends}
-use Rattle.fixdec.specs.Frac.{Frac, whole}
-use Rattle.fixdec.specs.Member.{Symbols}
-use Rattle.lensmodel.specs.Chain.{Chain}
 use Rattle.lensmodel.specs.Values.{zero_decimal, plane}
 use Rattle.lensmodel.specs.declared.glass.Glass.{Glass}
 use Rattle.lensmodel.specs.declared.glass.Medium.{Medium}
@@ -13,10 +9,13 @@ use Rattle.lensmodel.specs.declared.glass.Medium.TheVariants.{Air, Of}
 use Rattle.lensmodel.specs.declared.launch.Launch.{Launch}
 use Rattle.lensmodel.specs.declared.launch.Launch.TheVariants.{Plain}
 use Rattle.lensmodel.specs.declared.prescription.Prescription.{Prescription}
-use Rattle.lensmodel.specs.declared.row.Heading.{Heading}
-use Rattle.lensmodel.specs.declared.row.Place.{Place}
 use Rattle.lensmodel.specs.declared.setup.Setup.{Setup}
 use Rattle.lensmodel.specs.declared.surface.Surface.{Surface}
+use Rattle.lensmodel.specs.declared.surface.SurfaceKind.TheVariants.{EvenAsph}
+
+-- the decimal n
+abbrev pub whole_decimal : ℤ → Decimal
+whole_decimal n = record { mant = n; exp = pos 0 }
 
 -- the name FLAT
 abbrev pub flat_name : ArrayVec ℕ
@@ -58,7 +57,7 @@ setup_of surfaces media = record {
 
 -- a plane in air, and the image 4 behind it
 abbrev pub plane_setup : Setup
-plane_setup = setup_of (far_object ∷ record plane { thick = Some record { mant = pos 4; exp = pos 0 } } ∷ plane ∷ []) (Air ∷ Air ∷ [])
+plane_setup = setup_of (far_object ∷ record plane { thick = Some (whole_decimal (pos 4)) } ∷ plane ∷ []) (Air ∷ Air ∷ [])
 
 -- from the vertex, in the plane of y, with the slope 3/4
 abbrev pub slanted_ray : Launch
@@ -77,72 +76,63 @@ sphere_setup =
 abbrev pub axis_ray : Launch
 axis_ray = Plain zero_decimal zero_decimal zero_decimal zero_decimal
 
--- a at the start, b at surface 1, c from surface 2 on
-abbrev pub by_surface : Frac → Frac → Frac → ℕ → Frac
-by_surface a b c zero = a
-by_surface a b c (suc zero) = b
-by_surface a b c (suc (suc j)) = c
+-- a plane between glass FLAT and air, and the image 4 behind it
+abbrev pub glass_setup : Setup
+glass_setup =
+    setup_of (record far_object { glass = Some flat_name } ∷ record plane { thick = Some (whole_decimal (pos 4)) } ∷ plane ∷ [])
+    (Of flat_glass ∷ Air ∷ [])
 
--- the chain of the slanted ray through the plane: its sides are 3, 4 and 5
-abbrev pub slanted_chain : Symbols → Chain
-slanted_chain symbols = record {
-  symbols = symbols;
-  glass_index = λ j. whole (pos 1);
-  x = λ j. whole (pos 0);
-  y = by_surface (whole (pos 0)) (whole (pos 0)) (whole (pos 3));
-  z = λ j. whole (pos 0);
-  path = by_surface (whole (pos 0)) (whole (pos 0)) (whole (pos 5));
-  rho = by_surface (whole (pos 0)) (whole (pos 0)) (whole (pos 9));
-  conic_sag = λ j. whole (pos 0);
-  w = λ j. whole (pos 1);
-  l = λ j. whole (pos 0);
-  m = λ j. record { num = pos 3; less = 4 };
-  n = λ j. record { num = pos 4; less = 4 };
-}
+-- from the vertex, in the plane of y, with the slope 6/5
+abbrev pub steep_ray : Launch
+steep_ray = Plain zero_decimal zero_decimal zero_decimal record { mant = pos 12; exp = negsuc 0 }
 
--- the chain along the axis of the sphere: 10 of glass, of index 3/2
-abbrev pub axis_chain : Symbols → Chain
-axis_chain symbols = record {
-  symbols = symbols;
-  glass_index = by_surface (whole (pos 1)) (record { num = pos 3; less = 1 }) (whole (pos 1));
-  x = λ j. whole (pos 0);
-  y = λ j. whole (pos 0);
-  z = λ j. whole (pos 0);
-  path = by_surface (whole (pos 0)) (whole (pos 0)) (whole (pos 15));
-  rho = λ j. whole (pos 0);
-  conic_sag = λ j. whole (pos 0);
-  w = λ j. whole (pos 1);
-  l = λ j. whole (pos 0);
-  m = λ j. whole (pos 0);
-  n = λ j. whole (pos 1);
-}
+-- a plane in air with a rim of radius 5, 4 before the next vertex
+abbrev pub rim_plane : Surface
+rim_plane = record plane { thick = Some (whole_decimal (pos 4)); semi = Some (whole_decimal (pos 5)); rim = true }
 
--- millionths from a to b
-abbrev pub span : ℤ → ℤ → Ends
-span a b = record { lo = a; hi = b }
+-- that plane, and the image
+abbrev pub rim_setup : Setup
+rim_setup = setup_of (far_object ∷ rim_plane ∷ plane ∷ []) (Air ∷ Air ∷ [])
 
--- the printed heading of the slanted ray behind surface 1, in millionths
-abbrev pub slanted_heading : Heading
-slanted_heading = record { l = span (negsuc 0) (pos 1); m = span (pos 599998) (pos 600002); n = span (pos 799999) (pos 800001) }
+-- along the axis, at the height y
+abbrev pub level_ray : Decimal → Launch
+level_ray y = Plain zero_decimal y zero_decimal zero_decimal
 
--- the printed place of the slanted ray at surface 1, in millionths
-abbrev pub slanted_vertex : Place
-slanted_vertex = record {
-  rho = span (pos 0) (pos 2);
-  x = span (negsuc 2) (pos 3);
-  y = span (negsuc 2) (pos 3);
-  z = span (negsuc 0) (pos 1);
-  path = span (negsuc 3) (pos 4);
-  heading = Some slanted_heading;
-}
+-- a parabola of curvature -1/10 that reflects, and the image in its focus, 5 before it
+abbrev pub mirror_setup : Setup
+mirror_setup =
+    setup_of
+    (far_object
+    ∷ record plane {
+      curv = record { mant = negsuc 0; exp = negsuc 0 };
+      conic = whole_decimal (negsuc 0);
+      thick = Some (whole_decimal (negsuc 4));
+      mirror = true;
+    }
+    ∷ plane ∷ [])
+    (Air ∷ Air ∷ [])
 
--- the printed place of the slanted ray at the image, in millionths
-abbrev pub slanted_image : Place
-slanted_image = record {
-  rho = span (pos 8999862) (pos 9000140);
-  x = span (negsuc 13) (pos 14);
-  y = span (pos 2999977) (pos 3000023);
-  z = span (negsuc 0) (pos 1);
-  path = span (pos 4999985) (pos 5000016);
-  heading = None;
-}
+-- the heights 5.1 and 4.9, past the rim and within it
+abbrev pub high_height : Decimal
+high_height = record { mant = pos 51; exp = negsuc 0 }
+
+abbrev pub low_height : Decimal
+low_height = record { mant = pos 49; exp = negsuc 0 }
+
+-- the bowl z = (x² + y²) / 10 in air, as an even asphere, and the image 4 behind its vertex
+abbrev pub bowl_setup : Setup
+bowl_setup =
+    setup_of
+    (far_object
+    ∷ record plane {
+      kind = EvenAsph;
+      thick = Some (whole_decimal (pos 4));
+      semi = Some (whole_decimal (pos 5));
+      a1 = record { mant = pos 1; exp = negsuc 0 };
+    }
+    ∷ plane ∷ [])
+    (Air ∷ Air ∷ [])
+
+-- from the height 0.375, with the slope 5
+abbrev pub bowl_ray : Launch
+bowl_ray = Plain zero_decimal record { mant = pos 375; exp = negsuc 2 } zero_decimal (whole_decimal (pos 5))

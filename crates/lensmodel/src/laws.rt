@@ -1,7 +1,7 @@
 //! Laws of chains: each function does nothing, and its contract is the law.
 
 ghost use Rattle.lensmodel.specs.Exchange.{ReachesAlike, LeavesAlike, ClearsAlike, RestIsRest, CurvatureAtRest, DistanceAtRest, IndexAtRest, IndexFreeKeeps, BoxHoldsLens, LensAtRest};
-ghost use Rattle.lensmodel.specs.ChainLaws.{ReachesBefore, LeavesBefore, WholeReaches, WholeLeaves, ReachesNext, CurvatureWritten, DistanceWritten, IndexWritten, DirectionStays, TurnsAtMirrors, StaysElsewhere, VignettedExcludes, OutsideExcludes, TirExcludes};
+ghost use Rattle.lensmodel.specs.ChainLaws.{ReachesBefore, LeavesBefore, WholeReaches, WholeLeaves, ReachesNext, CurvatureWritten, DistanceWritten, IndexWritten, DirectionStays, TurnsAtMirrors, StaysElsewhere, MirrorsKeepMedium, MirrorsKeepIndex, VignettedExcludes, OutsideExcludes, TirExcludes};
 
 /// A chain to a surface is a chain to each surface before it, and past it.
 pub fn chain_fronts()
@@ -20,18 +20,21 @@ pub fn written_values()
 {}
 
 /// Between equal media the direction stays.
-pub fn equal_media_keep()
+pub fn equal_media_keep_direction()
     ensures { DirectionStays }
 {}
 
-/// A mirror turns the sign of travel, and nothing else does.
-pub fn mirrors_turn()
+/// A mirror turns the sign of travel, and nothing else does; behind it is the medium before it, with
+/// the same index.
+pub fn mirrors_turn_travel()
     ensures turns { TurnsAtMirrors }
     ensures stays { StaysElsewhere }
+    ensures medium { MirrorsKeepMedium }
+    ensures index { MirrorsKeepIndex }
 {}
 
 /// The words `vignetted`, `outside` and `tir` exclude the word `passes` of a whole chain.
-pub fn words_exclude()
+pub fn words_exclude_passes()
     ensures vignetted { VignettedExcludes }
     ensures outside { OutsideExcludes }
     ensures tir { TirExcludes }

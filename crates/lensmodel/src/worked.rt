@@ -1,20 +1,26 @@
 //! Worked setups, each with a ray and a chain that can be checked by hand.
 
-ghost use Rattle.std.specs.Prelude.{◌≡◌, pos, [], ◌∷◌};
-ghost use Rattle.fixdec.specs.Frac.{◌≈◌, whole};
+ghost use Rattle.std.specs.Prelude.{◌≡◌, pos, negsuc, IsTrue, IsFalse};
+ghost use Rattle.fixdec.specs.Frac.{Frac, ◌≈◌, ◌≤Q◌, ◌<Q◌, ◌+Q◌, whole};
 ghost use Rattle.fixdec.specs.Member.{Symbols};
-ghost use Rattle.lensmodel.specs.Chains.{IsWhole};
-ghost use Rattle.lensmodel.specs.Claims.{HoldsPlace, HoldsHeading};
-ghost use Rattle.lensmodel.specs.Worked.{flat_name, flat_glass, setup_of, plane_setup, slanted_ray, slanted_chain, slanted_vertex, slanted_heading, slanted_image, sphere_setup, axis_ray, axis_chain};
-ghost use Rattle.lensmodel.specs.Values.{plane, zero_decimal};
+ghost use Rattle.lensmodel.specs.Chains.{IsChainTo, IsWhole, Clears, ClearsAll};
+ghost use Rattle.lensmodel.specs.Claims.{HoldsPlace, HoldsHeading, WordHolds};
+ghost use Rattle.lensmodel.specs.Crossing.{zone_of};
+ghost use Rattle.lensmodel.specs.Media.{equal_media};
+ghost use Rattle.lensmodel.specs.Residual.{IsWithin};
+ghost use Rattle.lensmodel.specs.Values.{surface_at, owner, travel, eps};
+ghost use Rattle.lensmodel.specs.Worked.{whole_decimal, plane_setup, slanted_ray, sphere_setup, axis_ray, glass_setup, steep_ray, rim_setup, level_ray, high_height, low_height, mirror_setup, bowl_setup, bowl_ray};
+ghost use Rattle.lensmodel.specs.WorkedChains.{slanted_chain, slanted_to, axis_chain, height_chain, steep_chain, level_chain, mirror_chain, bowl_near, bowl_far};
+ghost use Rattle.lensmodel.specs.WorkedRow.{slanted_vertex, slanted_heading, slanted_image};
 
-use crate::glass::{Glass, Medium};
+use crate::glass::Medium;
 use crate::launch::Launch;
-use crate::name::Name;
-use crate::prescription::Prescription;
+use crate::row::Word;
 use crate::setup::Setup;
-use crate::surface::{Surface, SurfaceKind};
-use arrayvec::ArrayVec;
+use crate::single::{
+    flat, flat_medium, plane_surface, ray_in_y, rim_surface, setup_between, setup_in_air, sphere,
+};
+use crate::surface::SurfaceKind;
 use fixdec::dec::Dec;
 
 /// A setup and a ray of it.
@@ -26,122 +32,23 @@ pub struct Worked {
     pub ray: Launch,
 }
 
-/// The name FLAT.
-fn flat() -> Name
-    ensures { result ≡ flat_name }
-{
-    let mut name: Name = ArrayVec::new();
-    name.push(70);
-    name.push(76);
-    name.push(65);
-    name.push(84);
-    name
-}
-
-/// The glass FLAT, of index 3/2 at every wavelength.
-fn flat_medium() -> Medium
-    ensures { result ≡ Medium.Of flat_glass }
-{
-    let zero = Dec { mant: 0, exp: 0 };
-    Medium::Of(Glass {
-        name: flat(),
-        formula: 1,
-        c0: Dec { mant: 225, exp: -2 },
-        c1: zero,
-        c2: zero,
-        c3: zero,
-        c4: zero,
-        c5: zero,
-        low: None,
-        high: None,
-    })
-}
-
-/// A plane in air of this thickness, None being infinite.
-fn plane_surface(thick: Option<Dec>) -> Surface
-    ensures { result ≡ record plane { thick = thick } }
-{
-    let zero = Dec { mant: 0, exp: 0 };
-    Surface {
-        kind: SurfaceKind::Standard,
-        curv: zero,
-        conic: zero,
-        thick,
-        glass: None,
-        semi: None,
-        rim: false,
-        mirror: false,
-        a1: zero,
-        a2: zero,
-        a3: zero,
-        a4: zero,
-        a5: zero,
-        a6: zero,
-        a7: zero,
-        a8: zero,
-    }
-}
-
-/// The image, a plane in air.
-fn image_surface() -> Surface
-    ensures { result ≡ plane }
-{
-    plane_surface(Some(Dec { mant: 0, exp: 0 }))
-}
-
-/// The setup of an object, one surface and the image, with the media behind the first two.
-fn setup_between(object: Surface, surface: Surface, before: Medium, behind: Medium) -> Setup
-    ensures { result ≡ setup_of (object ∷ surface ∷ plane ∷ []) (before ∷ behind ∷ []) }
-{
-    let mut surfaces: ArrayVec<Surface, 64> = ArrayVec::new();
-    surfaces.push(object);
-    surfaces.push(surface);
-    surfaces.push(image_surface());
-    let mut media: ArrayVec<Medium, 64> = ArrayVec::new();
-    media.push(before);
-    media.push(behind);
-    Setup {
-        lens: Prescription {
-            surfaces,
-            stop: 1,
-            waves: ArrayVec::new(),
-            primary: 1,
-        },
-        media,
-        wave: Dec { mant: 5, exp: -1 },
-        res: 12,
-        width: Dec { mant: 1, exp: -3 },
-        toler: None,
-    }
-}
-
-/// A ray from the vertex with this slope in y.
-fn ray_from_vertex(q: Dec) -> Launch
-    ensures { result ≡ Launch.Plain zero_decimal zero_decimal zero_decimal q }
-{
-    let zero = Dec { mant: 0, exp: 0 };
-    Launch::Plain {
-        x: zero,
-        y: zero,
-        p: zero,
-        q,
-    }
-}
-
 /// A plane in air, the image 4 behind it, and a ray from its vertex with the slope 3/4: its chain
 /// has the sides 3, 4 and 5, and lies in the intervals that are printed of it.
 pub fn slanted_plane() -> Worked
     ensures setup { result.setup ≡ plane_setup }
     ensures ray { result.ray ≡ slanted_ray }
+    ensures media { IsTrue (equal_media result.setup 0) }
     ensures chain { (symbols : Symbols) → IsWhole result.setup result.ray (slanted_chain symbols) }
     ensures vertex { (symbols : Symbols) → HoldsPlace 6 slanted_vertex (slanted_chain symbols) 1 }
     ensures heading { (symbols : Symbols) → HoldsHeading 6 slanted_heading (slanted_chain symbols) 1 }
     ensures image { (symbols : Symbols) → HoldsPlace 6 slanted_image (slanted_chain symbols) 2 }
+    // The height at the image may be off by the residual, and not by more than twice that.
+    ensures within { (y : Frac) (symbols : Symbols) → IsWithin (eps result.setup) y (whole (pos 3)) → IsWhole result.setup result.ray (slanted_to y symbols) }
+    ensures beyond { (y : Frac) (symbols : Symbols) → IsWhole result.setup result.ray (slanted_to y symbols) → IsWithin (eps result.setup +Q eps result.setup) y (whole (pos 3)) }
 {
-    let surface = plane_surface(Some(Dec { mant: 4, exp: 0 }));
     Worked {
-        setup: setup_between(plane_surface(None), surface, Medium::Air, Medium::Air),
-        ray: ray_from_vertex(Dec { mant: 75, exp: -2 }),
+        setup: setup_in_air(plane_surface(Some(Dec { mant: 4, exp: 0 }))),
+        ray: ray_in_y(Dec { mant: 0, exp: 0 }, Dec { mant: 75, exp: -2 }),
     }
 }
 
@@ -150,14 +57,121 @@ pub fn slanted_plane() -> Worked
 pub fn glass_axis() -> Worked
     ensures setup { result.setup ≡ sphere_setup }
     ensures ray { result.ray ≡ axis_ray }
+    ensures media { IsFalse (equal_media result.setup 0) }
     ensures chain { (symbols : Symbols) → IsWhole result.setup result.ray (axis_chain symbols) }
     ensures path { (symbols : Symbols) → (axis_chain symbols).path 2 ≈ whole (pos 15) }
 {
-    let mut surface = plane_surface(Some(Dec { mant: 1, exp: 1 }));
-    surface.curv = Dec { mant: 1, exp: -1 };
-    surface.glass = Some(flat());
+    let zero = Dec { mant: 0, exp: 0 };
     Worked {
-        setup: setup_between(plane_surface(None), surface, Medium::Air, flat_medium()),
-        ray: ray_from_vertex(Dec { mant: 0, exp: 0 }),
+        setup: sphere(),
+        ray: ray_in_y(zero, zero),
+    }
+}
+
+/// The same sphere, and a level ray at the height 6: it crosses at the sag 2, where the sphere
+/// faces it, and is bent by Snell's law.
+pub fn glass_height() -> Worked
+    ensures setup { result.setup ≡ sphere_setup }
+    ensures ray { result.ray ≡ level_ray (whole_decimal (pos 6)) }
+    ensures chain { (symbols : Symbols) → IsWhole result.setup result.ray (height_chain symbols) }
+    ensures sag { (symbols : Symbols) → (height_chain symbols).z 1 ≈ whole (pos 2) }
+{
+    Worked {
+        setup: sphere(),
+        ray: ray_in_y(Dec { mant: 6, exp: 0 }, Dec { mant: 0, exp: 0 }),
+    }
+}
+
+/// A plane between glass of index 3/2 and air, the image 4 behind it, and a ray from its vertex,
+/// in the glass, with the slope 6/5: a chain reaches the plane, and none leaves it.
+pub fn total_reflection() -> Worked
+    ensures setup { result.setup ≡ glass_setup }
+    ensures ray { result.ray ≡ steep_ray }
+    ensures reaches { (symbols : Symbols) → IsChainTo result.setup result.ray 1 (steep_chain symbols) }
+    ensures tir { WordHolds (Word.Tir 1) result.setup result.ray }
+{
+    let mut object = plane_surface(None);
+    object.glass = Some(flat());
+    let surface = plane_surface(Some(Dec { mant: 4, exp: 0 }));
+    Worked {
+        setup: setup_between(object, surface, flat_medium(), Medium::Air),
+        ray: ray_in_y(Dec { mant: 0, exp: 0 }, Dec { mant: 12, exp: -1 }),
+    }
+}
+
+/// A plane with a rim of radius 5, and a level ray at that height: a tie clears, but a chain may
+/// lie off by the residual, so there are chains that clear and chains that don't.
+pub fn rim_tie() -> Worked
+    ensures setup { result.setup ≡ rim_setup }
+    ensures ray { result.ray ≡ level_ray (whole_decimal (pos 5)) }
+    ensures chains { (y : Frac) (symbols : Symbols) → IsWithin (eps result.setup) y (whole (pos 5)) → IsWhole result.setup result.ray (level_chain y symbols) }
+    ensures clears { (y : Frac) (symbols : Symbols) → whole (pos 0) ≤Q y → y ≤Q whole (pos 5) → ClearsAll result.setup (level_chain y symbols) }
+    ensures misses { (y : Frac) (symbols : Symbols) → whole (pos 5) <Q y → Clears result.setup (level_chain y symbols) 1 → ⊥ }
+{
+    Worked {
+        setup: setup_in_air(rim_surface()),
+        ray: ray_in_y(Dec { mant: 5, exp: 0 }, Dec { mant: 0, exp: 0 }),
+    }
+}
+
+/// The same plane, and a level ray at the height 5.1: no chain clears it.
+pub fn rim_past() -> Worked
+    ensures setup { result.setup ≡ rim_setup }
+    ensures ray { result.ray ≡ level_ray high_height }
+    ensures vignetted { WordHolds (Word.Vignetted 1) result.setup result.ray }
+{
+    Worked {
+        setup: setup_in_air(rim_surface()),
+        ray: ray_in_y(Dec { mant: 51, exp: -1 }, Dec { mant: 0, exp: 0 }),
+    }
+}
+
+/// The same plane, and a level ray at the height 4.9: every whole chain clears every rim.
+pub fn rim_within() -> Worked
+    ensures setup { result.setup ≡ rim_setup }
+    ensures ray { result.ray ≡ level_ray low_height }
+    ensures passes { WordHolds Word.Passes result.setup result.ray }
+{
+    Worked {
+        setup: setup_in_air(rim_surface()),
+        ray: ray_in_y(Dec { mant: 49, exp: -1 }, Dec { mant: 0, exp: 0 }),
+    }
+}
+
+/// A parabola of curvature -1/10 that reflects, the image in its focus, 5 before it, and a level ray
+/// at the height 2: its chain comes back to the focus with the sides 5, 12 and 13.
+pub fn mirror_focus() -> Worked
+    ensures setup { result.setup ≡ mirror_setup }
+    ensures ray { result.ray ≡ level_ray (whole_decimal (pos 2)) }
+    ensures travel { travel result.setup 1 ≡ negsuc 0 }
+    ensures owner { owner result.setup 1 ≡ 0 }
+    ensures chain { (symbols : Symbols) → IsWhole result.setup result.ray (mirror_chain symbols) }
+{
+    let mut surface = plane_surface(Some(Dec { mant: -5, exp: 0 }));
+    surface.curv = Dec { mant: -1, exp: -1 };
+    surface.conic = Dec { mant: -1, exp: 0 };
+    surface.mirror = true;
+    Worked {
+        setup: setup_in_air(surface),
+        ray: ray_in_y(Dec { mant: 2, exp: 0 }, Dec { mant: 0, exp: 0 }),
+    }
+}
+
+/// The bowl `z = (x^2 + y^2) / 10` as an even asphere, and a ray of slope 5 that meets it at the
+/// heights 1/2 and 3/2: both crossings are on chains.
+pub fn bowl_twice() -> Worked
+    ensures setup { result.setup ≡ bowl_setup }
+    ensures ray { result.ray ≡ bowl_ray }
+    ensures zone { zone_of (surface_at result.setup 1).semi ≈ record { num = pos 11; less = 1 } }
+    ensures near { (symbols : Symbols) → IsWhole result.setup result.ray (bowl_near symbols) }
+    ensures far { (symbols : Symbols) → IsWhole result.setup result.ray (bowl_far symbols) }
+{
+    let mut surface = plane_surface(Some(Dec { mant: 4, exp: 0 }));
+    surface.kind = SurfaceKind::EvenAsph;
+    surface.semi = Some(Dec { mant: 5, exp: 0 });
+    surface.a1 = Dec { mant: 1, exp: -1 };
+    Worked {
+        setup: setup_in_air(surface),
+        ray: ray_in_y(Dec { mant: 375, exp: -3 }, Dec { mant: 5, exp: 0 }),
     }
 }

@@ -1,12 +1,13 @@
 use Rattle.std.proofs.Common.{rules, ◌≡◌, sym, subst}
 use Rattle.lensmodel.specs.Chains.{IsWhole}
-use Rattle.lensmodel.specs.Worked.{sphere_setup, axis_ray, axis_chain}
+use Rattle.lensmodel.specs.Worked.{sphere_setup, axis_ray}
+use Rattle.lensmodel.specs.WorkedChains.{axis_chain}
 use Rattle.lensmodel.proofs.Axis.{axis_whole}
 use Rattle.lensmodel.proofs.worked.glass_axis.Goals as goal
 
 pub returns-clause-chain : goal.returns-clause-chain
 returns-clause-chain c symbols =
-    let is_setup : c.setup_between.result ≡ sphere_setup = search rules in
-    let is_ray : c.ray_from_vertex.result ≡ axis_ray = search rules in
-    subst (λ s. IsWhole s c.ray_from_vertex.result (axis_chain symbols)) (sym is_setup)
+    let is_setup : c.sphere.result ≡ sphere_setup = search rules in
+    let is_ray : c.ray_in_y.result ≡ axis_ray = search rules in
+    subst (λ s. IsWhole s c.ray_in_y.result (axis_chain symbols)) (sym is_setup)
     (subst (λ r. IsWhole sphere_setup r (axis_chain symbols)) (sym is_ray) (axis_whole symbols))

@@ -1,15 +1,35 @@
 use Rattle.std.proofs.Common.{rules, ◌≡◌, sym, subst}
+use Rattle.std.specs.Prelude.{pos}
+use Rattle.fixdec.specs.Frac.{◌+Q◌, whole}
 use Rattle.lensmodel.specs.Chains.{IsWhole}
-use Rattle.lensmodel.specs.Worked.{plane_setup, slanted_ray, slanted_chain}
+use Rattle.lensmodel.specs.Residual.{IsWithin}
+use Rattle.lensmodel.specs.Values.{eps}
+use Rattle.lensmodel.specs.Worked.{plane_setup, slanted_ray}
+use Rattle.lensmodel.specs.WorkedChains.{slanted_chain, slanted_to}
+use Rattle.lensmodel.proofs.Residuals.{height_within, height_beyond}
 use Rattle.lensmodel.proofs.Slanted.{slanted_whole, slanted_vertex_holds, slanted_heading_holds, slanted_image_holds}
 use Rattle.lensmodel.proofs.worked.slanted_plane.Goals as goal
 
 pub returns-clause-chain : goal.returns-clause-chain
 returns-clause-chain c symbols =
-    let is_setup : c.setup_between.result ≡ plane_setup = search rules in
-    let is_ray : c.ray_from_vertex.result ≡ slanted_ray = search rules in
-    subst (λ s. IsWhole s c.ray_from_vertex.result (slanted_chain symbols)) (sym is_setup)
+    let is_setup : c.setup_in_air.result ≡ plane_setup = search rules in
+    let is_ray : c.ray_in_y.result ≡ slanted_ray = search rules in
+    subst (λ s. IsWhole s c.ray_in_y.result (slanted_chain symbols)) (sym is_setup)
     (subst (λ r. IsWhole plane_setup r (slanted_chain symbols)) (sym is_ray) (slanted_whole symbols))
+
+pub returns-clause-within : goal.returns-clause-within
+returns-clause-within c y symbols =
+    let is_setup : c.setup_in_air.result ≡ plane_setup = search rules in
+    let is_ray : c.ray_in_y.result ≡ slanted_ray = search rules in
+    subst (λ s. IsWithin (eps s) y (whole (pos 3)) → IsWhole s c.ray_in_y.result (slanted_to y symbols)) (sym is_setup)
+    (subst (λ r. IsWithin (eps plane_setup) y (whole (pos 3)) → IsWhole plane_setup r (slanted_to y symbols)) (sym is_ray) (height_within y symbols))
+
+pub returns-clause-beyond : goal.returns-clause-beyond
+returns-clause-beyond c y symbols =
+    let is_setup : c.setup_in_air.result ≡ plane_setup = search rules in
+    let is_ray : c.ray_in_y.result ≡ slanted_ray = search rules in
+    subst (λ s. IsWhole s c.ray_in_y.result (slanted_to y symbols) → IsWithin (eps s +Q eps s) y (whole (pos 3))) (sym is_setup)
+    (subst (λ r. IsWhole plane_setup r (slanted_to y symbols) → IsWithin (eps plane_setup +Q eps plane_setup) y (whole (pos 3))) (sym is_ray) (height_beyond y symbols))
 
 pub returns-clause-vertex : goal.returns-clause-vertex
 returns-clause-vertex c = slanted_vertex_holds

@@ -1,5 +1,5 @@
 use Rattle.lensmodel.proofs.Mirrors.{direction_stays}
-use Rattle.lensmodel.proofs.laws.equal_media_keep.Goals as goal
+use Rattle.lensmodel.proofs.laws.equal_media_keep_direction.Goals as goal
 
 pub returns : goal.returns
 returns c = direction_stays
