@@ -68,9 +68,6 @@ pub mod Values
 pub mod WellFormed
 pub mod WholeFaults
 pub mod Worked
-<<<<<<< HEAD
-pub mod Zones
-=======
 pub mod WorkedChains
 pub mod WorkedRow
->>>>>>> a16729ef6692d7bdeac493e1dfa802a74a976945
+pub mod Zones
