@@ -7,6 +7,7 @@ pub mod ComputedBoxes
 pub mod ComputedEdges
 pub mod ComputedFolds
 pub mod ComputedForms
+pub mod ComputedRounds
 pub mod ComputedRows
 pub mod Concrete
 pub mod Exchange

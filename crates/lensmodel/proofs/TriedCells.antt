@@ -29,14 +29,14 @@ use Rattle.lensmodel.proofs.TriedForms.{linear_by, same_linear}
 use Rattle.lensmodel.proofs.TriedRoots.{operations_by, tried_root, same_operations}
 
 module _ (cell : Operations Ends) (scale : ℕ) where
-  abbrev cell_by : Prepared Ends → Ends → Ends → Ends → Ends → Ends → Ends → ℤ → Step Ends
+  abbrev pub cell_by : Prepared Ends → Ends → Ends → Ends → Ends → Ends → Ends → ℤ → Step Ends
   cell_by face zone2 x0 y0 p q z e = do
     x2 ← cell.square (← cell.plus x0 (← cell.times p z))
     y2 ← cell.square (← cell.plus y0 (← cell.times q z))
     rho ← cell.clip (← cell.plus x2 y2) (up_to zone2)
     cell.widen (← sag_rows cell scale face rho e) e
 
-  abbrev pruned_by : Prepared Ends → Ends → Ends → Ends → Ends → Ends → ℤ → Ends → Step Ends
+  abbrev pub pruned_by : Prepared Ends → Ends → Ends → Ends → Ends → Ends → ℤ → Ends → Step Ends
   pruned_by face zone2 x0 y0 p q e a = kept_hull scale (λ z. is_kept scale z (cell_by face zone2 x0 y0 p q z e)) (cells scale a)
 
 module _ {A : Type 0} (cell : Operations Ends) (o : Operations A) (scale : ℕ) where

@@ -14,6 +14,7 @@ pub mod ComputedBoxes
 pub mod ComputedEdges
 pub mod ComputedFolds
 pub mod ComputedForms
+pub mod ComputedRounds
 pub mod ComputedRows
 pub mod ComputedScales
 pub mod Constants

@@ -6,6 +6,7 @@ ghost use Rattle.lensmodel.specs.ComputedBoxes.{ThicknessBox, PlateBox, FlatInde
 ghost use Rattle.lensmodel.specs.ComputedEdges.{BoundMet, BoundPassed, ImageTie, ImageRim, EqualGlass, EqualInBox, TolerantBefore, TolerantBehind};
 ghost use Rattle.lensmodel.specs.ComputedFolds.{FoldedRay, FoldedBox};
 ghost use Rattle.lensmodel.specs.ComputedForms.{PlaneInForms, AsphereInForms, OutsideInForms, ReflectedInForms, VignettedInForms, TieInForms, FormDifference, FormQuotient, FormProduct};
+ghost use Rattle.lensmodel.specs.ComputedRounds.{BentParts, FrontParts, SteepRounds};
 ghost use Rattle.lensmodel.specs.ComputedRows.{SlantedPlane, SphereHeight, GlassAxis, MirrorFocus, PastSphere, TotalReflection, OutsideRim, InsideRim, FanRay, AimedRay};
 ghost use Rattle.lensmodel.specs.ComputedScales.{RimTie, WideBeforeUndecided, VignettedBeforeWide, WideAtFirst, FinerPasses, SphereEdge, GrazingRay, FarImage, FarthestImage, FinestResidual, LessFarImage, FartherImage, FinestPasses, CoarseResidual, FineResidual};
 
@@ -132,4 +133,12 @@ pub fn words_in_forms()
     ensures reflected { ReflectedInForms }
     ensures vignetted { VignettedInForms }
     ensures tie { TieInForms }
+{}
+
+/// The parts of a meeting with an even asphere: the window, what the cells leave of it, and the
+/// slope rounds.
+pub fn meetings()
+    ensures bent { BentParts }
+    ensures front { FrontParts }
+    ensures steep { SteepRounds }
 {}
