@@ -3,7 +3,8 @@ use Rattle.std.specs.Prelude.{◌≡◌, pos, negsuc, [], ◌∷◌, Some}
 use Rattle.fixdec.specs.declared.step.Why.TheVariants.{Root, Range}
 use Rattle.lensmodel.specs.ComputedRows.{Gives, row_in_intervals, outcome, place, headed, about, ones, tenths, ray_at}
 use Rattle.lensmodel.specs.Values.{zero_decimal, plane}
-use Rattle.lensmodel.specs.Worked.{span, far_object, setup_of}
+use Rattle.lensmodel.specs.Worked.{far_object, setup_of}
+use Rattle.lensmodel.specs.WorkedRow.{span}
 use Rattle.lensmodel.specs.declared.glass.Medium.TheVariants.{Air}
 use Rattle.lensmodel.specs.declared.launch.Launch.{Launch}
 use Rattle.lensmodel.specs.declared.launch.Launch.TheVariants.{Plain}

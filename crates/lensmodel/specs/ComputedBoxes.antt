@@ -9,7 +9,8 @@ use Rattle.lensmodel.specs.Constants.{residual_units}
 use Rattle.lensmodel.specs.Outcome.{outcome_at}
 use Rattle.lensmodel.specs.Preparation.{medium_row}
 use Rattle.lensmodel.specs.Values.{plane}
-use Rattle.lensmodel.specs.Worked.{span, flat_name, flat_glass, far_object, setup_of, plane_setup, slanted_ray}
+use Rattle.lensmodel.specs.Worked.{flat_name, flat_glass, far_object, setup_of, plane_setup, slanted_ray}
+use Rattle.lensmodel.specs.WorkedRow.{span}
 use Rattle.lensmodel.specs.declared.glass.Glass.{Glass}
 use Rattle.lensmodel.specs.declared.glass.Medium.TheVariants.{Air, Of}
 use Rattle.lensmodel.specs.declared.launch.Launch.{Launch}

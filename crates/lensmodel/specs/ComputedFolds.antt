@@ -4,7 +4,8 @@ use Rattle.fixdec.specs.Decimal.{Decimal}
 use Rattle.lensmodel.specs.ComputedBoxes.{GivesInForms}
 use Rattle.lensmodel.specs.ComputedRows.{Gives, place, headed, about, ones, tenths}
 use Rattle.lensmodel.specs.Values.{plane}
-use Rattle.lensmodel.specs.Worked.{span, flat_name, flat_glass, far_object, setup_of}
+use Rattle.lensmodel.specs.Worked.{flat_name, flat_glass, far_object, setup_of}
+use Rattle.lensmodel.specs.WorkedRow.{span}
 use Rattle.lensmodel.specs.declared.glass.Medium.TheVariants.{Air, Of}
 use Rattle.lensmodel.specs.declared.launch.Launch.{Launch}
 use Rattle.lensmodel.specs.declared.launch.Launch.TheVariants.{Plain}

@@ -6,7 +6,8 @@ use Rattle.lensmodel.specs.ComputedAspheres.{asphere_setup, bent}
 use Rattle.lensmodel.specs.ComputedBoxes.{GivesInForms, boxed}
 use Rattle.lensmodel.specs.ComputedRows.{outcome, place, headed, about, ones, tenths, ray_at, ray_sloped, rim_setup, from_glass_setup}
 use Rattle.lensmodel.specs.Outcome.{Outcome, outcome_at, row_of}
-use Rattle.lensmodel.specs.Worked.{span, plane_setup, sphere_setup, slanted_ray}
+use Rattle.lensmodel.specs.Worked.{plane_setup, sphere_setup, slanted_ray}
+use Rattle.lensmodel.specs.WorkedRow.{span}
 use Rattle.lensmodel.specs.declared.launch.Launch.{Launch}
 use Rattle.lensmodel.specs.declared.row.Word.TheVariants.{Passes, Vignetted, Outside, Tir, Undecided}
 use Rattle.lensmodel.specs.declared.setup.Setup.{Setup}

@@ -13,7 +13,7 @@ use Rattle.lensmodel.specs.Preparation.{preparation_rows}
 use Rattle.lensmodel.specs.SlopeRounds.{window_row, pruned, hulls, zone2_of, round_rows}
 use Rattle.lensmodel.specs.StartRows.{start_rows}
 use Rattle.lensmodel.specs.Values.{zero_decimal, plane}
-use Rattle.lensmodel.specs.Worked.{span}
+use Rattle.lensmodel.specs.WorkedRow.{span}
 use Rattle.lensmodel.specs.declared.launch.Launch.{Launch}
 use Rattle.lensmodel.specs.declared.launch.Launch.TheVariants.{Plain}
 use Rattle.lensmodel.specs.declared.row.Word.TheVariants.{Passes}

@@ -5,7 +5,8 @@ use Rattle.fixdec.specs.Ends.{Ends}
 use Rattle.fixdec.specs.IntervalOperations.{operations}
 use Rattle.lensmodel.specs.Outcome.{Outcome, outcome_at, row_of}
 use Rattle.lensmodel.specs.Values.{zero_decimal, plane}
-use Rattle.lensmodel.specs.Worked.{span, flat_name, flat_glass, far_object, setup_of, plane_setup, slanted_ray, slanted_vertex, slanted_image, sphere_setup, axis_ray}
+use Rattle.lensmodel.specs.Worked.{flat_name, flat_glass, far_object, setup_of, plane_setup, slanted_ray, sphere_setup, axis_ray}
+use Rattle.lensmodel.specs.WorkedRow.{span, slanted_vertex, slanted_image}
 use Rattle.lensmodel.specs.declared.glass.Medium.TheVariants.{Air, Of}
 use Rattle.lensmodel.specs.declared.launch.Launch.{Launch}
 use Rattle.lensmodel.specs.declared.launch.Launch.TheVariants.{Plain, Pupil}

@@ -5,7 +5,8 @@ use Rattle.fixdec.specs.declared.step.Why.TheVariants.{Zero, Range}
 use Rattle.lensmodel.specs.ComputedRows.{row_in_intervals, outcome, place, headed, about, bounded_by, ones, tenths, ray_at, ray_sloped, plane_before, rim_setup, from_glass_setup}
 use Rattle.lensmodel.specs.Constants.{residual_units}
 use Rattle.lensmodel.specs.Outcome.{outcome_at}
-use Rattle.lensmodel.specs.Worked.{span, plane_setup, sphere_setup, slanted_ray, axis_ray}
+use Rattle.lensmodel.specs.Worked.{plane_setup, sphere_setup, slanted_ray, axis_ray}
+use Rattle.lensmodel.specs.WorkedRow.{span}
 use Rattle.lensmodel.specs.declared.row.Place.{Place}
 use Rattle.lensmodel.specs.declared.row.Word.TheVariants.{Passes, Vignetted, Undecided, Wide, Lost}
 
