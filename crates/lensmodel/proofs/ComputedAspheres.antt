@@ -3,8 +3,8 @@ use Rattle.std.proofs.Common.{ℕ, refl}
 use Rattle.fixdec.specs.Interval.{iv_size}
 use Rattle.fixdec.specs.IntervalOperations.{operations}
 use Rattle.fixdec.specs.Zone.{zone, norm, least_power}
-use Rattle.lensmodel.specs.ComputedAspheres.{SphericalHeight, BentHeight, PastZone, BowlLost, BowlRoot, BowlAsConic, spherical, bent, bowl, paraboloid, steep_ray, asphere_setup}
-use Rattle.lensmodel.specs.ComputedRows.{ones, ray_at}
+use Rattle.lensmodel.specs.ComputedAspheres.{SphericalHeight, BentHeight, PastZone, AtZone, BowlLost, BowlRoot, BowlAsConic, spherical, bent, bowl, paraboloid, steep_ray, asphere_setup}
+use Rattle.lensmodel.specs.ComputedRows.{ones, tenths, ray_at}
 use Rattle.lensmodel.specs.SagRows.{sag_rows}
 use Rattle.lensmodel.specs.SlopeRounds.{round_rows}
 use Rattle.lensmodel.proofs.ComputedRows.{opened, row_by_trying}
@@ -26,6 +26,10 @@ bent_height = asphere_by_trying 6 (asphere_setup bent) (ray_at (ones 6)) _ refl
 pub past_zone : PastZone
 unfolding opened_aspheres
 past_zone = asphere_by_trying 6 (asphere_setup bent) (ray_at (ones 9)) _ refl
+
+pub at_zone : AtZone
+unfolding opened_aspheres
+at_zone = asphere_by_trying 6 (asphere_setup bent) (ray_at (tenths 88)) _ refl
 
 pub bowl_lost : BowlLost
 unfolding opened_aspheres

@@ -1,16 +1,15 @@
 -- The parts of a meeting with an even asphere, by computing.
-use Rattle.std.proofs.Common.{◌≡◌, ℕ, [], ◌∷◌, List, subst, refl}
+use Rattle.std.proofs.Common.{◌≡◌, [], ◌∷◌, List, subst, refl}
 use Rattle.std.specs.Prelude.{pos}
 use Rattle.fixdec.specs.Ends.{Ends}
-use Rattle.fixdec.specs.IntervalOperations.{operations}
 use Rattle.fixdec.specs.Operations.{Operations}
 use Rattle.fixdec.specs.Steps.{◌>>=◌}
 use Rattle.fixdec.specs.declared.step.Step.{Step}
 use Rattle.fixdec.specs.declared.step.Step.TheVariants.{Val}
 use Rattle.lensmodel.specs.ComputedAspheres.{asphere_setup, bent}
-use Rattle.lensmodel.specs.ComputedFolds.{folded_setup, skew_ray, decimal}
+use Rattle.lensmodel.specs.ComputedFolds.{folded_setup, skew_ray}
 use Rattle.lensmodel.specs.ComputedRounds.{BentParts, FrontParts, SteepRounds, first_parts, steep_asphere}
-use Rattle.lensmodel.specs.ComputedRows.{ones, ray_at}
+use Rattle.lensmodel.specs.ComputedRows.{ones, tenths, ray_at}
 use Rattle.lensmodel.specs.CrossingRows.{foot_rows}
 use Rattle.lensmodel.specs.Preparation.{preparation_rows}
 use Rattle.lensmodel.specs.SlopeRounds.{window_row, hulls, zone2_of, round_rows}
@@ -49,4 +48,4 @@ front_parts = parts_by_trying folded_setup skew_ray _ refl
 
 pub steep_rounds : SteepRounds
 unfolding opened_aspheres
-steep_rounds = asphere_by_trying 6 (record (asphere_setup steep_asphere) { width = ones 1 }) (Plain zero_decimal (ones 2) zero_decimal (decimal (pos 125) 2)) _ refl
+steep_rounds = asphere_by_trying 6 (record (asphere_setup steep_asphere) { width = ones 1 }) (Plain zero_decimal (tenths 21) zero_decimal (tenths 12)) _ refl

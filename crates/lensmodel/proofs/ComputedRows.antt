@@ -7,7 +7,7 @@ use Rattle.fixdec.specs.IntervalOperations.{operations}
 use Rattle.fixdec.specs.Operations.{Operations}
 use Rattle.fixdec.specs.Scaled.{dec_floor, dec_ceil, dec_span, dec_shifted}
 use Rattle.lensmodel.specs.BendingRows.{bend_rows, stay_rows}
-use Rattle.lensmodel.specs.ComputedRows.{SlantedPlane, SphereHeight, GlassAxis, MirrorFocus, PastSphere, TotalReflection, OutsideRim, InsideRim, FanRay, AimedRay, row_in_intervals, ones, tenths, ray_at, ray_sloped, plane_before, air_sphere_setup, mirror_setup, from_glass_setup, rim_setup, bounded_by}
+use Rattle.lensmodel.specs.ComputedRows.{SlantedPlane, SphereHeight, GlassAxis, MirrorFocus, PastSphere, BehindEquator, TotalReflection, OutsideRim, InsideRim, FanRay, AimedRay, row_in_intervals, ones, tenths, ray_at, ray_sloped, plane_before, air_sphere_setup, mirror_setup, from_glass_setup, rim_setup, bounded_by}
 use Rattle.lensmodel.specs.ComputedScales.{RimTie, WideBeforeUndecided, VignettedBeforeWide, WideAtFirst, FinerPasses, SphereEdge, GrazingRay, FarImage, FarthestImage, FinestResidual, LessFarImage, FartherImage, FinestPasses, CoarseResidual, FineResidual}
 use Rattle.lensmodel.specs.CrossingRows.{meet_standard_rows}
 use Rattle.lensmodel.specs.HitRows.{hit_rows}
@@ -18,7 +18,7 @@ use Rattle.lensmodel.specs.StartRows.{start_rows}
 use Rattle.lensmodel.specs.Values.{zero_decimal}
 use Rattle.lensmodel.specs.Worked.{plane_setup, slanted_ray, sphere_setup, axis_ray}
 use Rattle.lensmodel.specs.declared.launch.Launch.{Launch}
-use Rattle.lensmodel.specs.declared.launch.Launch.TheVariants.{Pupil}
+use Rattle.lensmodel.specs.declared.launch.Launch.TheVariants.{Plain, Pupil}
 use Rattle.lensmodel.specs.declared.row.Word.{Word}
 use Rattle.lensmodel.specs.declared.setup.Setup.{Setup}
 use Rattle.lensmodel.proofs.TriedRoots.{operations_by, tried_root, same_operations}
@@ -64,6 +64,10 @@ mirror_focus = by_trying 6 mirror_setup (ray_at (ones 2)) _ refl
 pub past_sphere : PastSphere
 unfolding opened
 past_sphere = by_trying 6 sphere_setup (ray_at (ones 11)) _ refl
+
+pub behind_equator : BehindEquator
+unfolding opened
+behind_equator = by_trying 6 air_sphere_setup (Plain zero_decimal (ones 19) zero_decimal (record { mant = negsuc 6; exp = negsuc 0 })) _ refl
 
 pub total_reflection : TotalReflection
 unfolding opened

@@ -45,6 +45,14 @@ BentHeight =
 abbrev pub PastZone : Type 0
 PastZone = Gives 6 (asphere_setup bent) (ray_at (ones 9)) (Outside 1) []
 
+-- a height of 8.8 is the zone itself: rho ends with its square
+abbrev pub AtZone : Type 0
+AtZone =
+    Gives 6 (asphere_setup bent) (ray_at (tenths 88)) Passes
+    (headed (place (span (pos 77439771) (pos 77440000)) (about 13) (span (pos 8799987) (pos 8800013)) (span (pos 5310195) (pos 5310272)) (span (pos 5310187) (pos 5310280))) (about 1) (about 1) (span (pos 999999) (pos 1000001))
+    ∷ place (span (pos 77439560) (pos 77440442)) (about 25) (span (pos 8799975) (pos 8800025)) (about 1) (span (pos 9999907) (pos 10000093))
+    ∷ [])
+
 -- a bowl, of curvature 0 and with the first coefficient 1/10, and a steep ray that crosses it twice
 abbrev pub bowl : Surface
 bowl = record plane { kind = EvenAsph; thick = Some (ones 4); semi = Some (ones 5); a1 = tenths 1 }

@@ -1,5 +1,5 @@
 -- The parts of a meeting with an even asphere, number for number: the window, what the cells leave of it, and the slope rounds.
-use Rattle.std.specs.Prelude.{◌≡◌, ℕ, ℤ, pos, negsuc, [], ◌∷◌, List, Some}
+use Rattle.std.specs.Prelude.{◌≡◌, pos, negsuc, [], ◌∷◌, List, Some}
 use Rattle.fixdec.specs.Ends.{Ends}
 use Rattle.fixdec.specs.IntervalOperations.{operations}
 use Rattle.fixdec.specs.Steps.{◌>>=◌}
@@ -45,13 +45,13 @@ FrontParts =
     first_parts folded_setup skew_ray
     ≡ Val (span (negsuc 757748801) (pos 757748802) ∷ span (pos 0) (pos 47359300) ∷ span (pos 0) (pos 739989) ∷ span (pos 283128) (pos 283155) ∷ [])
 
--- a ray so steep on an asphere that each of the four rounds leaves less than the one before
+-- a ray so steep on an asphere that the fourth round still narrows the sag, and a fifth one would
 abbrev pub steep_asphere : Surface
 steep_asphere = record plane { kind = EvenAsph; curv = tenths 1; thick = Some (ones 4); semi = Some (ones 5); a1 = decimal (pos 2) 2; a2 = decimal (pos 5) 4 }
 
 abbrev pub SteepRounds : Type 0
 SteepRounds =
-    Gives 6 (record (asphere_setup steep_asphere) { width = ones 1 }) (Plain zero_decimal (ones 2) zero_decimal (decimal (pos 125) 2)) Passes
-    (headed (place (span (pos 7058862) (pos 7059167)) (about 4) (span (pos 2656852) (pos 2656909)) (span (pos 525487) (pos 525522)) (span (pos 841185) (pos 841250))) (about 1) (span (pos 780866) (pos 780871)) (span (pos 624694) (pos 624696))
-    ∷ place (span (pos 48998880) (pos 49001066)) (about 13) (span (pos 6999920) (pos 7000076)) (about 1) (span (pos 6403050) (pos 6403199))
+    Gives 6 (record (asphere_setup steep_asphere) { width = ones 1 }) (Plain zero_decimal (tenths 21) zero_decimal (tenths 12)) Passes
+    (headed (place (span (pos 7901068) (pos 7901475)) (about 4) (span (pos 2810884) (pos 2810956)) (span (pos 592411) (pos 592456)) (span (pos 925370) (pos 925451))) (about 1) (span (pos 768218) (pos 768225)) (span (pos 640183) (pos 640186))
+    ∷ place (span (pos 47608633) (pos 47611354)) (about 13) (span (pos 6899901) (pos 6900098)) (about 1) (span (pos 6248106) (pos 6248291))
     ∷ [])

@@ -115,6 +115,11 @@ MirrorFocus =
 abbrev pub PastSphere : Type 0
 PastSphere = Gives 6 sphere_setup (ray_at (ones 11)) (Outside 1) []
 
+-- a ray that first meets the sphere behind its equator, where w is below 0, isn't one that crosses it
+abbrev pub BehindEquator : Type 0
+BehindEquator =
+    Gives 6 air_sphere_setup (Plain zero_decimal (ones 19) zero_decimal (record { mant = negsuc 6; exp = negsuc 0 })) (Outside 1) []
+
 -- a slope past the critical angle
 abbrev pub TotalReflection : Type 0
 TotalReflection = Gives 6 from_glass_setup (ray_sloped (tenths 12)) (Tir 1) (place (span (pos 0) (pos 2)) (about 3) (about 5) (about 1) (about 8) ∷ [])

@@ -1,13 +1,13 @@
 //! Rows of worked setups, number for number: each function does nothing, and its contract says
 //! what the definitions of the rows give.
 
-ghost use Rattle.lensmodel.specs.ComputedAspheres.{SphericalHeight, BentHeight, PastZone, BowlLost, BowlRoot, BowlAsConic};
+ghost use Rattle.lensmodel.specs.ComputedAspheres.{SphericalHeight, BentHeight, PastZone, AtZone, BowlLost, BowlRoot, BowlAsConic};
 ghost use Rattle.lensmodel.specs.ComputedBoxes.{ThicknessBox, PlateBox, FlatIndex, HeavyIndex, CrownIndex};
 ghost use Rattle.lensmodel.specs.ComputedEdges.{BoundMet, BoundPassed, ImageTie, ImageRim, EqualGlass, EqualInBox, TolerantBefore, TolerantBehind};
 ghost use Rattle.lensmodel.specs.ComputedFolds.{FoldedRay, FoldedBox};
 ghost use Rattle.lensmodel.specs.ComputedForms.{PlaneInForms, AsphereInForms, OutsideInForms, ReflectedInForms, VignettedInForms, TieInForms, FormDifference, FormQuotient, FormProduct};
 ghost use Rattle.lensmodel.specs.ComputedRounds.{BentParts, FrontParts, SteepRounds};
-ghost use Rattle.lensmodel.specs.ComputedRows.{SlantedPlane, SphereHeight, GlassAxis, MirrorFocus, PastSphere, TotalReflection, OutsideRim, InsideRim, FanRay, AimedRay};
+ghost use Rattle.lensmodel.specs.ComputedRows.{SlantedPlane, SphereHeight, GlassAxis, MirrorFocus, PastSphere, BehindEquator, TotalReflection, OutsideRim, InsideRim, FanRay, AimedRay};
 ghost use Rattle.lensmodel.specs.ComputedScales.{RimTie, WideBeforeUndecided, VignettedBeforeWide, WideAtFirst, FinerPasses, SphereEdge, GrazingRay, FarImage, FarthestImage, FinestResidual, LessFarImage, FartherImage, FinestPasses, CoarseResidual, FineResidual};
 
 /// Rays that reach the image: through a plane, through a sphere in air, along the axis of a sphere
@@ -19,9 +19,11 @@ pub fn rays_pass()
     ensures mirror { MirrorFocus }
 {}
 
-/// Rays that end before the image: past the edge of a sphere, and past the critical angle.
+/// Rays that end before the image: past the edge of a sphere, behind its equator, and past the
+/// critical angle.
 pub fn rays_end()
     ensures outside { PastSphere }
+    ensures behind { BehindEquator }
     ensures reflected { TotalReflection }
 {}
 
@@ -67,12 +69,13 @@ pub fn residuals()
     ensures finest { FinestResidual }
 {}
 
-/// Even aspheres: one that is a sphere, one that is bent, a ray past the zone, and a bowl whose
-/// steep ray is lost, though it crosses the same bowl as a conic.
+/// Even aspheres: one that is a sphere, one that is bent, rays past the zone and at it, and a bowl
+/// whose steep ray is lost, though it crosses the same bowl as a conic.
 pub fn aspheres()
     ensures spherical { SphericalHeight }
     ensures bent { BentHeight }
     ensures zone { PastZone }
+    ensures at_zone { AtZone }
     ensures bowl { BowlLost }
     ensures root { BowlRoot }
     ensures conic { BowlAsConic }

@@ -1,4 +1,4 @@
-use Rattle.lensmodel.proofs.ComputedAspheres.{spherical_height, bent_height, past_zone, bowl_lost, bowl_root, bowl_as_conic}
+use Rattle.lensmodel.proofs.ComputedAspheres.{spherical_height, bent_height, past_zone, at_zone, bowl_lost, bowl_root, bowl_as_conic}
 use Rattle.lensmodel.proofs.computed.aspheres.Goals as goal
 
 pub returns-clause-spherical : goal.returns-clause-spherical
@@ -9,6 +9,9 @@ returns-clause-bent c = bent_height
 
 pub returns-clause-zone : goal.returns-clause-zone
 returns-clause-zone c = past_zone
+
+pub returns-clause-at_zone : goal.returns-clause-at_zone
+returns-clause-at_zone c = at_zone
 
 pub returns-clause-bowl : goal.returns-clause-bowl
 returns-clause-bowl c = bowl_lost
