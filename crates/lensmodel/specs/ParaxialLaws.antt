@@ -3,7 +3,6 @@ use Rattle.std.proofs.Common.{ℕ, [], ◌∷◌}
 use Rattle.std.specs.Prelude.{ℤ, pos, negsuc, Option, Some, None}
 use Rattle.fixdec.specs.Decimal.{Decimal, value}
 use Rattle.fixdec.specs.Frac.{Frac, ◌≈◌, ◌+Q◌, ◌*Q◌, ◌-Q◌, neg_Q, whole}
-use Rattle.fixdec.specs.FracLaws.{≈_sym}
 use Rattle.fixdec.specs.Linear.{linear, fact, name, no_fact, reads}
 use Rattle.fixdec.specs.Member.{Symbols}
 use Rattle.fixdec.specs.Operations.{Operations, IsLawful}

@@ -1,5 +1,5 @@
 -- How names, numbers and intervals are printed, byte by byte.
-use Rattle.std.specs.Prelude.{ℕ, Bool, ◌&&◌, nat_le, List, [], ◌∷◌, ◌++◌, codes, length, map, Option, Some, None, if◌then◌else◌}
+use Rattle.std.specs.Prelude.{ℕ, ◌&&◌, nat_le, List, [], ◌∷◌, ◌++◌, codes, length, map, Option, Some, None, if◌then◌else◌}
 use Rattle.std.specs.Fmt.{decimal}
 use Rattle.fixdec.specs.Decimal.{Decimal}
 use Rattle.fixdec.specs.DecimalText.{fix_text, dec_text}

@@ -1,5 +1,5 @@
 -- Text: the 16-bit units that bytes stand for, their lines, and the words of a line.
-use Rattle.std.specs.Prelude.{ℕ, zero, suc, ◌+◌, ◌*◌, ◌%◌, ◌^◌, Bool, true, false, ◌&&◌, ◌||◌, nat_eq, nat_le, nat_lt, not, List, [], ◌∷◌, length, drop, Option, Some, None, Result, Ok, Err, if◌then◌else◌}
+use Rattle.std.specs.Prelude.{ℕ, suc, ◌+◌, ◌*◌, ◌%◌, Bool, true, false, ◌&&◌, ◌||◌, nat_eq, nat_le, nat_lt, not, List, [], ◌∷◌, length, drop, Option, Some, None, Result, Ok, Err, if◌then◌else◌}
 use Rattle.lensmodel.specs.declared.fault.TextFault.{TextFault}
 use Rattle.lensmodel.specs.declared.fault.TextFault.TheVariants.{OddByte, Surrogate, LongLine}
 

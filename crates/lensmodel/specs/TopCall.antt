@@ -1,10 +1,10 @@
 -- The outcome of a call: from its words and the held files the status and the text that are due.
-use Rattle.std.specs.Prelude.{ℕ, ℤ, pos, ◌&&◌, Bool, nat_le, nat_lt, int_lt, List, [], ◌∷◌, length, codes, Option, Some, None, Result, Ok, Err, if◌then◌else◌}
+use Rattle.std.specs.Prelude.{ℕ, pos, nat_le, nat_lt, int_lt, List, [], ◌∷◌, length, codes, Option, Some, None, Result, Ok, Err, if◌then◌else◌}
 use Rattle.fixdec.specs.Decimal.{Decimal}
 use Rattle.fixdec.specs.Ends.{Ends}
 use Rattle.fixdec.specs.Reading.{decimal_of}
 use Rattle.fixdec.specs.declared.step.Step.{Step}
-use Rattle.fixdec.specs.declared.step.Step.TheVariants.{Val, Empty, Lost}
+use Rattle.fixdec.specs.declared.step.Step.TheVariants.{Val}
 use Rattle.lensmodel.specs.Catalogue.{catalogue}
 use Rattle.lensmodel.specs.Records.{same_word}
 use Rattle.lensmodel.specs.FaultText.{usage_line, absent_line, too_long_line, refused_line, crossed_line, agf_cause}
