@@ -1,5 +1,5 @@
 -- What was delivered, where it was the outcome.
-use Rattle.std.proofs.Common.{◌≡◌, ℕ, List, subst, ap, sym, ◌∙◌, inl, inr}
+use Rattle.std.proofs.Common.{◌≡◌, ℕ, List, subst, ap, ◌∙◌, inl, inr}
 use Rattle.std.specs.Prelude.{Option}
 use Rattle.lensio.specs.Taken.{Takes}
 use Rattle.lensmodel.specs.TopCall.{Files, Answer, outcome}

@@ -1,16 +1,15 @@
 -- What is due is the outcome of the words and the files, told or not.
-use Rattle.std.proofs.Common.{◌≡◌, ◌⊎◌, ℕ, ◌<◌, ◌≤◌, suc, zero, List, [], ◌∷◌, length, refl, sym, subst, ap, ◌∙◌, arith}
+use Rattle.std.proofs.Common.{◌≡◌, ℕ, ◌<◌, ◌≤◌, suc, zero, List, [], ◌∷◌, length, refl, sym, subst, ap, ◌∙◌, arith}
 use Rattle.std.specs.Prelude.{Option, Some, None, IsSomeAnd}
 use Rattle.std.proofs.lemmas.Bool.{le-ltb, lt-ltb}
 use Rattle.lensio.specs.Held.{Holds, HoldsMore, Lacks}
 use Rattle.lensio.specs.declared.transfer.SlurpFault.{SlurpFault}
 use Rattle.lensio.specs.declared.transfer.SlurpFault.TheVariants as slurped
-use Rattle.lensmodel.specs.FaultText.{usage_line, absent_line, too_long_line, read_fault_line}
+use Rattle.lensmodel.specs.FaultText.{usage_line, too_long_line, read_fault_line}
 use Rattle.lensmodel.specs.TopCall.{Files, Answer, answer, Command, index, glass, command_of, files_of, command_answer, on_file, outcome}
 use Rattle.lensmodel.specs.declared.status.FileKind.{FileKind}
 use Rattle.lensmodel.specs.declared.status.FileKind.TheVariants.{Agf}
-use Rattle.lensmodel.specs.declared.status.Status.{Status}
-use Rattle.lensmodel.specs.declared.status.Status.TheVariants.{Usage, Absent, TooLong, ReadFault, Memory}
+use Rattle.lensmodel.specs.declared.status.Status.TheVariants.{Usage, TooLong, ReadFault}
 use Rattle.lensrun.specs.Due.{unread_answer, bytes_answer}
 use Rattle.lensrun.specs.Promise.{OfFiles, IsDecided, IsReadFaultLine}
 

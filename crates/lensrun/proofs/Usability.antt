@@ -1,18 +1,14 @@
 -- A glass that was picked can be used.
-use Rattle.std.proofs.Common.{◌≡◌, ◌≢◌, ◌⊎◌, ℕ, List, Bool, true, false, refl, sym, subst, ap, ◌∙◌, inl, inr}
-use Rattle.std.specs.Prelude.{Option, Some, None, Result, Ok, Err, not, if◌then◌else◌}
-use Rattle.std.proofs.lemmas.Bool.{or_cases}
+use Rattle.std.proofs.Common.{◌≡◌, ◌≢◌, ◌⊎◌, ℕ, List, refl, sym, subst, ap, inl, inr}
+use Rattle.std.specs.Prelude.{Result, Ok, Err}
 use Rattle.dispers.specs.Picked.{picked-is}
 use Rattle.fixdec.specs.Decimal.{Decimal}
-use Rattle.lensmodel.specs.Catalogue.{find_glass, is_used}
-use Rattle.lensmodel.specs.Dispersion.{IsKnown}
 use Rattle.lensmodel.specs.FaultText.{crossed_line}
-use Rattle.lensmodel.specs.Picking.{picked, usable, usable_if_found, medium_of, is_under, is_over, is_good_index, index_at_12}
-use Rattle.lensmodel.specs.TopCall.{Answer, answer, on_glass}
+use Rattle.lensmodel.specs.Picking.{picked, medium_of}
+use Rattle.lensmodel.specs.TopCall.{answer, on_glass}
 use Rattle.lensmodel.specs.declared.fault.AgfFault.{AgfFault}
 use Rattle.lensmodel.specs.declared.fault.AgfFault.TheVariants as agf
 use Rattle.lensmodel.specs.declared.fault.CrossFault.{CrossFault}
-use Rattle.lensmodel.specs.declared.fault.CrossFault.TheVariants.{NoGlass, Formula, WaveRange, BadIndex}
 use Rattle.lensmodel.specs.declared.glass.Glass.{Glass}
 use Rattle.lensmodel.specs.declared.glass.Medium.{Medium}
 use Rattle.lensmodel.specs.declared.glass.Medium.TheVariants.{Of}

@@ -1,5 +1,4 @@
 pub mod Asked
-pub mod Causes
 pub mod Due
 pub mod Promise
 pub mod Usable

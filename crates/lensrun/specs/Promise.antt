@@ -1,6 +1,5 @@
 -- What a call promises: how it ends and what it writes. A shelf and a sink may tell their bytes or not.
 use Rattle.std.specs.Prelude.{◌≡◌, ℕ, ◌⊎◌, List, Any, Option, None, Some}
-use Rattle.lensio.specs.Count.{Rose}
 use Rattle.lensio.specs.Taken.{Takes, TakesFront}
 use Rattle.lensmodel.specs.FaultText.{read_fault_line}
 use Rattle.lensmodel.specs.IndexMeaning.{Means}

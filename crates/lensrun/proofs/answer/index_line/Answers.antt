@@ -1,7 +1,5 @@
 use Rattle.std.proofs.Common.{◌≡◌, sym, ap, ◌∙◌}
-use Rattle.fixdec.specs.Ends.{Ends}
 use Rattle.fixdec.specs.IntervalOperations.{operations}
-use Rattle.fixdec.specs.declared.step.Step.{Step}
 use Rattle.lensmodel.specs.Printed.{index_line}
 use Rattle.lensmodel.specs.TopCall.{answer, printed_index}
 use Rattle.lensmodel.specs.declared.glass.Medium.{Medium}

@@ -1,6 +1,5 @@
-use Rattle.std.proofs.Common.{◌≡◌, ℕ, Vec, Global, List, map, ap, inl, inr, subst, ◌∙◌, arith}
+use Rattle.std.proofs.Common.{ℕ, Vec, Global, List, map, ap, inl, inr, subst, ◌∙◌, arith}
 use Rattle.std.specs.Prelude.{Err}
-use Rattle.lensmodel.specs.TopCall.{Answer}
 use Rattle.lensrun.specs.Asked.{asked}
 use Rattle.lensrun.specs.Due.{due_answer, bytes_answer}
 use Rattle.lensrun.specs.Promise.{IsDecided}
