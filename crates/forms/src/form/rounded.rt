@@ -6,7 +6,8 @@ ghost use Rattle.fixdec.specs.Ends.{InCap};
 ghost use Rattle.fixdec.specs.Form as spec;
 
 use super::{Form, kept};
-use crate::coefficients::{mixed, multiplied, quotient, quotients, remainders};
+use crate::coefficients::{mixed, multiplied};
+use crate::rounding::{quotient, quotients, remainders};
 use fixdec::div::pow10;
 use fixdec::step::Step;
 
