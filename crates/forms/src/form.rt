@@ -1,8 +1,7 @@
 //! Linear forms. At a scale S the raw number `v` stands for `v / 10^S`, and a symbol is a number
 //! from -1 to 1, the same wherever its number stands.
 
-ghost use Rattle.std.specs.Prelude.{◌≡◌, ◌≢◌, false, ℕ, ℤ, pos, negsuc, ◌≤◌, ◌<◌, ◌*◌, ◌^◌, ◌+◌, ◌≤ℤ◌, ◌+ℤ◌, ◌-ℤ◌, ◌*ℤ◌, int_div, max, unsigned_abs, slice_index_or};
-ghost use Rattle.fixdec.specs.Ends.{Ends, InCap};
+ghost use Rattle.std.specs.Prelude.{◌≡◌, pos, ◌≤◌, ◌<◌, ◌^◌, ◌+◌, unsigned_abs, slice_index_or};
 ghost use Rattle.fixdec.specs.Form as spec;
 ghost use Rattle.fixdec.specs.Form.{LinearForm};
 ghost use Rattle.forms.specs.Kept.{IsKept};

@@ -3,3 +3,4 @@
 
 mod coefficients;
 pub mod form;
+mod rounding;

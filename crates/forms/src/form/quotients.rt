@@ -1,9 +1,8 @@
 //! Quotients of forms.
 
-ghost use Rattle.std.specs.Prelude.{◌≡◌, false, ℕ, ℤ, pos, ◌≤◌, ◌<◌, ◌+◌, ◌-◌, ◌*◌, ◌^◌, unsigned_abs};
+ghost use Rattle.std.specs.Prelude.{◌≡◌, ◌≤◌, ◌<◌, ◌+◌, ◌-◌, ◌*◌, ◌^◌, unsigned_abs};
 ghost use Rattle.fixdec.specs.Ends.{InCap};
 ghost use Rattle.fixdec.specs.Form as spec;
-ghost use Rattle.fixdec.specs.Interval.{fits_cap, holds_zero};
 
 use super::Form;
 use super::rounded::{ceiling, divided, product, unit};

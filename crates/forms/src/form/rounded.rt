@@ -1,12 +1,13 @@
 //! Products and powers of ten of forms, rounded.
 
-ghost use Rattle.std.specs.Prelude.{◌≡◌, ◌≢◌, ℕ, ℤ, pos, negsuc, ◌≤◌, ◌<◌, ◌*◌, ◌^◌, ◌≤ℤ◌, ◌*ℤ◌, unsigned_abs};
+ghost use Rattle.std.specs.Prelude.{◌≡◌, ◌≢◌, ℤ, pos, negsuc, ◌≤◌, ◌<◌, ◌*◌, ◌^◌, ◌≤ℤ◌, ◌*ℤ◌, unsigned_abs};
 ghost use Rattle.std.specs.Int.{div_ceil};
 ghost use Rattle.fixdec.specs.Ends.{InCap};
 ghost use Rattle.fixdec.specs.Form as spec;
 
 use super::{Form, kept};
-use crate::coefficients::{mixed, multiplied, quotient, quotients, remainders};
+use crate::coefficients::{mixed, multiplied};
+use crate::rounding::{quotient, quotients, remainders};
 use fixdec::div::pow10;
 use fixdec::step::Step;
 

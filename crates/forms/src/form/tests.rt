@@ -1,4 +1,4 @@
-ghost use Rattle.std.specs.Prelude.{ℕ, ℤ, pos, ◌≤◌, ◌<◌, ◌↔◌, IsTrue};
+ghost use Rattle.std.specs.Prelude.{◌≤◌, ◌<◌, ◌↔◌, IsTrue};
 ghost use Rattle.fixdec.specs.Ends.{InCap};
 
 use super::*;

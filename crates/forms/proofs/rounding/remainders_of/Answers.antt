@@ -2,7 +2,7 @@ use Rattle.std.proofs.Common.{◌≤◌, length, ap, ◌∙◌, rules}
 use Rattle.std.proofs.lemmas.Int.{to_z-of_z}
 use Rattle.std.proofs.lemmas.List.{take_all}
 use Rattle.fixdec.specs.Form.{remainders}
-use Rattle.forms.proofs.coefficients.remainders_of.Goals as goal
+use Rattle.forms.proofs.rounding.remainders_of.Goals as goal
 
 pub returns-clause-count : goal.returns-clause-count
 returns-clause-count c =

@@ -2,7 +2,7 @@ use Rattle.std.proofs.Common.{◌≡◌, ◌∙◌, ◌+◌, true, false, ap, sy
 use Rattle.std.proofs.lemmas.Int.{to_z-of_z}
 use Rattle.fixdec.specs.Form.{has_remainder}
 use Rattle.forms.proofs.Floors.{remainders_yes, remainders_no}
-use Rattle.forms.proofs.coefficients.remainders.Goals as goal
+use Rattle.forms.proofs.rounding.remainders.Goals as goal
 
 pub returns-then-has_remainder-clause-count : goal.returns-then-has_remainder-clause-count
 returns-then-has_remainder-clause-count c =

@@ -2,7 +2,7 @@ use Rattle.std.proofs.Common.{arith}
 use Rattle.forms.proofs.Floors.{floor_multiple}
 use Rattle.forms.proofs.Sizes.{fits}
 use Rattle.std.proofs.lemmas.Int.{to_z-of_z}
-use Rattle.forms.proofs.coefficients.has_remainder.Goals as goal
+use Rattle.forms.proofs.rounding.has_remainder.Goals as goal
 
 pub overflow_mul-result : goal.overflow_mul-result
 overflow_mul-result c =

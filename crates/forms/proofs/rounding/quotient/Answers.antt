@@ -3,7 +3,7 @@ use Rattle.std.specs.Int.{w128}
 use Rattle.std.proofs.lemmas.Int.{to_z-of_z}
 use Rattle.fixdec.specs.Rounding.{floor}
 use Rattle.forms.proofs.Floors.{floor_size}
-use Rattle.forms.proofs.coefficients.quotient.Goals as goal
+use Rattle.forms.proofs.rounding.quotient.Goals as goal
 
 pub returns-else-n-eq0-clause-bound : goal.returns-else-n-eq0-clause-bound
 returns-else-n-eq0-clause-bound c =

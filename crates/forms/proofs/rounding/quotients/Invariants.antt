@@ -1,7 +1,7 @@
 use Rattle.std.proofs.Common.{◌≡◌, ℕ, ◌<◌, length}
 use Rattle.std.specs.Prelude.{pos, slice_index_or}
 use Rattle.fixdec.specs.Rounding.{floor}
-use Rattle.forms.proofs.coefficients.quotients.Given as goal
+use Rattle.forms.proofs.rounding.quotients.Given as goal
 
 abbrev pub invariant-loop-i : goal.invariant-loop-i
 invariant-loop-i l = record {

@@ -3,7 +3,7 @@ use Rattle.fixdec.specs.Rounding.{floor}
 use Rattle.std.proofs.lemmas.Int.{to_z-of_z}
 use Rattle.forms.proofs.Floors.{quotients_size}
 use Rattle.forms.proofs.Lists.{map_is}
-use Rattle.forms.proofs.coefficients.quotients.Goals as goal
+use Rattle.forms.proofs.rounding.quotients.Goals as goal
 
 pub returns-clause-value : goal.returns-clause-value
 returns-clause-value c =
