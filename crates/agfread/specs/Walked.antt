@@ -13,6 +13,7 @@ pub record OpenAt (before : List Words) (g : Glass) (held : List Glass) : Type 0
   pub last : last_where is_NM before ≡ Some nm
   pub formula : g.formula ≡ formula_number nm
 
+-- no glass began in the lines
 pub record NoneYet (before : List Words) (held : List Glass) : Type 0 where
   pub all : all_glasses before ≡ []
   pub held_is : held ≡ []
@@ -23,6 +24,7 @@ abbrev pub Walked : List Words → Option Glass → List Glass → Type 0
 Walked before None held = NoneYet before held
 Walked before (Some g) held = OpenAt before g held
 
+-- whether there is no glass
 abbrev pub is_none : Option Glass → Bool
 is_none None = true
 is_none (Some g) = false

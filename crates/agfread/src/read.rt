@@ -18,7 +18,7 @@ use std::alloc::Global;
 /// the first NM; a missing word; a word that is no decimal, or a formula that is no whole number
 /// from 0 to 99; a name of more than 40 units; the 4,097th NM. Lines and words are counted from 1.
 ///
-/// `Memory` comes for want of memory alone, and for a file of 2^32 bytes or more.
+/// `Memory` comes for want of memory alone, and for 2^32 bytes or more behind the mark of a file.
 pub fn read_agf(alloc: Global, bytes: &[u8]) -> Result<GlassBook, AgfFault>
     // The glasses, each with its last CD and LD lines, and of equal names the first.
     ensures book { IfOk result (λ b. catalogue bytes.now ≡ Ok b) }

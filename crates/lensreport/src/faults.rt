@@ -113,7 +113,8 @@ fn push_at_surface(cause: &str, surface: u32, out: &mut Line)
     push_surface(surface, out);
 }
 
-/// Appends what is wrong with a text, with its line.
+/// Appends what is wrong with a text, with its line; nothing for want of memory, which is no fault of
+/// the text.
 fn push_text_cause(fault: TextFault, out: &mut Line)
     requires { array_string_len out.old ≤ 512 }
     ensures bytes { out.new.bytes ≡ out.old.bytes ++ spec.text_cause fault }
@@ -127,7 +128,7 @@ fn push_text_cause(fault: TextFault, out: &mut Line)
     }
 }
 
-/// Appends the cause of a refused catalogue, with its place.
+/// Appends the cause of a refused catalogue, with its place; nothing for want of memory.
 fn push_agf_cause(fault: AgfFault, out: &mut Line)
     requires { array_string_len out.old ≤ 512 }
     ensures bytes { out.new.bytes ≡ out.old.bytes ++ spec.agf_cause fault }

@@ -1,7 +1,9 @@
-//! The lines of every printed text, each into a buffer of its own and without memory.
+//! The lines of printed texts, each into a buffer of its own and without memory.
 #![tactic(auto)]
 
 pub mod faults;
 pub mod glass;
 pub mod index;
 pub mod pieces;
+#[cfg(test)]
+mod tests;

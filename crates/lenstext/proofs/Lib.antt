@@ -3,3 +3,4 @@ pub mod Surrogates
 pub mod Lines
 pub mod Words
 pub mod Cutting
+pub mod Numbered

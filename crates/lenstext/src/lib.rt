@@ -3,4 +3,6 @@
 
 mod line;
 mod source;
+#[cfg(test)]
+mod tests;
 pub mod text;

@@ -43,7 +43,7 @@ fn split_mark(bytes: &[u8]) -> (&[u8], bool)
 
 impl<'a> Source<'a> {
     /// The units of the bytes. `OddByte` where the bytes are UTF-16 and a half unit is left over,
-    /// else `Memory` where there are 2^32 bytes or more.
+    /// else `Memory` where 2^32 bytes or more stand behind the mark.
     pub fn open(bytes: &'a [u8]) -> Result<Source<'a>, TextFault>
         ensures units { IfOk result (λ s. s ≡ units bytes.now) }
         ensures even { OnOk result (is_odd bytes.now ≡ false) }

@@ -1,22 +1,22 @@
 -- Every index of a medium is a member of what the rows of the index give, for every lawful arithmetic.
-use Rattle.std.proofs.lemmas.Int.{ints}
-use Rattle.std.proofs.Common.{arith, ◌≡◌, ℕ, ◌^◌, [], ◌∷◌, refl, ◌⊎◌, inl, inr}
+use Rattle.std.proofs.Common.{◌≡◌, ℕ, [], ◌∷◌, ◌⊎◌, inl, inr}
 use Rattle.std.specs.Prelude.{ℤ, pos}
 use Rattle.fixdec.specs.Decimal.{Decimal, value}
 use Rattle.fixdec.specs.Ends.{Ends}
-use Rattle.fixdec.specs.Frac.{Frac, ◌≈◌, ◌≤Q◌, ◌<Q◌, ◌+Q◌, ◌*Q◌, ◌-Q◌, whole}
+use Rattle.fixdec.specs.Frac.{Frac, ◌≈◌, ◌≤Q◌, ◌+Q◌, ◌*Q◌, ◌-Q◌, whole}
 use Rattle.fixdec.specs.FracLaws.{≈_sym, ≈_trans}
-use Rattle.fixdec.specs.Linear.{linear, linear_le, fact, name, order, no_fact, reads}
+use Rattle.fixdec.specs.Linear.{linear, linear_le, order, no_fact, reads}
 use Rattle.fixdec.specs.Member.{IsMember, IsNear, Symbols, units}
+use Rattle.fixdec.specs.MemberLaws.{units_nn}
 use Rattle.fixdec.specs.Operations.{Operations, IsLawful}
-use Rattle.fixdec.specs.Order.{nn_in, nn_whole}
+use Rattle.fixdec.specs.OrderLaws.{le_of_lt, zero_le_one}
 use Rattle.fixdec.specs.PowerLaws.{dec_span_member}
 use Rattle.fixdec.specs.Scaled.{dec_span}
-use Rattle.fixdec.specs.Steps.{◌>>=◌, OnVal, OnVal-then}
+use Rattle.fixdec.specs.Steps.{OnVal, OnVal-then}
 use Rattle.fixdec.specs.declared.step.Step.{Step}
 use Rattle.fixdec.specs.declared.step.Step.TheVariants.{Val, Empty, Lost}
 use Rattle.lensmodel.specs.Constants.{decimal_row, whole_row}
-use Rattle.lensmodel.specs.Dispersion.{IsSchott, IsSellmeier, IsFormula, IsGlassIndex, IsIndex, IsResonance, IsKnown}
+use Rattle.lensmodel.specs.Dispersion.{IsFormula, IsIndex, IsResonance, IsKnown}
 use Rattle.lensmodel.specs.IndexRows.{schott_rows, sellmeier_rows, resonance_row, formula_rows, index_rows}
 use Rattle.lensmodel.specs.Residual.{IsWithin}
 use Rattle.lensmodel.specs.declared.glass.Glass.{Glass}
@@ -28,12 +28,6 @@ pub OnVal-map : {A : Type 0} (r : Step A) (P Q : A → Type 0) → ((x : A) → 
 OnVal-map (Val x) P Q f h = f x h
 OnVal-map Empty P Q f h = h
 OnVal-map (Lost w) P Q f h = tt
-
-units_nn : (scale : ℕ) → whole (pos 0) ≤Q units scale
-units_nn scale = nn_in (nn_whole (10 ^ scale))
-
-≤_from_< : {x y : Frac} → x <Q y → x ≤Q y
-≤_from_< h = record { cross = let c = h.cross in omega (arith, ints) }
 
 one_value : value (record { mant = pos 1; exp = pos 0 }) ≈ whole (pos 1)
 one_value = linear [] _ _ (search reads depth 12) no_fact tt
@@ -48,13 +42,10 @@ schott_sum a0 a1 a2 a3 a4 a5 l r =
 IsNear-within : (scale : ℕ) (e : ℤ) (eps f g : Frac) → eps *Q units scale ≤Q whole e → whole (pos 0) ≤Q units scale → IsWithin eps g f → IsNear scale e f g
 IsNear-within scale e eps f g h u w = record {
   above = linear_le (f ∷ g ∷ eps ∷ units scale ∷ whole e ∷ []) _ _ (search reads depth 20 fits 4000)
-      (order u w.below (search reads depth 20 fits 4000) (order one_nn h (search reads depth 20 fits 4000) no_fact)) tt;
+      (order u w.below (search reads depth 20 fits 4000) (order zero_le_one h (search reads depth 20 fits 4000) no_fact)) tt;
   below = linear_le (f ∷ g ∷ eps ∷ units scale ∷ whole e ∷ []) _ _ (search reads depth 20 fits 4000)
-      (order u w.above (search reads depth 20 fits 4000) (order one_nn h (search reads depth 20 fits 4000) no_fact)) tt;
+      (order u w.above (search reads depth 20 fits 4000) (order zero_le_one h (search reads depth 20 fits 4000) no_fact)) tt;
 }
-  where
-    one_nn : whole (pos 0) ≤Q whole (pos 1)
-    one_nn = nn_in (nn_whole 1)
 
 -- an answer holds every index of the medium, at each wavelength in the span, within each residual that e units cover
 abbrev pub EnclosesIndex : {A : Type 0} → ℕ → (A → Symbols → Frac → Type 0) → Medium → Ends → ℤ → Step A → Type 0
@@ -147,4 +138,4 @@ module _ {A : Type 0} (scale : ℕ) (o : Operations A) (member : A → Symbols �
       OnVal-then (o.square (o.of_span a)) _ (λ v. member v s (w *Q w)) _ (law.square s (o.of_span a) w (law.of_span s a w ha)) λ v hv.
       OnVal-then (formula_rows o scale g v) _ (λ x. member x s h.f) _ (formula_rows-member s g v (w *Q w) h.f k hv h.formula) λ x hx.
       OnVal-then (o.widen x e) _ (λ y. member y s (n *Q n)) _ (law.widen s x e h.f (n *Q n) hx (IsNear-within scale e eps h.f (n *Q n) he (units_nn scale) h.square)) λ y hy.
-      law.root s y n (≤_from_< h.positive) hy
+      law.root s y n (le_of_lt h.positive) hy

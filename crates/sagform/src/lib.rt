@@ -1,5 +1,7 @@
-//! Indices, prepared surfaces, sags and normals.
+//! Refractive indices, and the count of the surfaces that were prepared.
 #![tactic(auto)]
 
 pub mod index;
 pub mod steps;
+#[cfg(test)]
+mod tests;

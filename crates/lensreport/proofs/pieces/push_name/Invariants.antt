@@ -1,4 +1,4 @@
-use Rattle.std.proofs.Common.{◌≡◌, ◌≤◌, ◌+◌, ◌++◌, take}
+use Rattle.std.proofs.Common.{◌≡◌, ◌+◌, ◌++◌, take}
 use Rattle.std.specs.Prelude.{map}
 use Rattle.arrayvec.specs.ArrayString.{array_string_len}
 use Rattle.lensmodel.specs.Printed.{unit_byte}

@@ -1,5 +1,5 @@
 use Rattle.std.proofs.Common.{ap, length, arith}
-use Rattle.lenstext.proofs.Cutting.{length-cut}
+use Rattle.lenstext.proofs.Numbered.{length-cut}
 use Rattle.lenstext.proofs.text.Text.count.Goals as goal
 
 pub returns-clause-count : goal.returns-clause-count

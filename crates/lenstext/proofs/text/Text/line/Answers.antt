@@ -1,5 +1,5 @@
 use Rattle.std.proofs.Common.{◌-◌, ℕ, List, ap, ◌∙◌, length, take, drop, arith, length-take}
-use Rattle.lenstext.proofs.Cutting.{found, within_ends}
+use Rattle.lenstext.proofs.Numbered.{found, within_ends}
 use Rattle.lenstext.proofs.text.Text.line.Goals as goal
 
 pub start_of_line-start-requires : goal.start_of_line-start-requires

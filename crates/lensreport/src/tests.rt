@@ -1,0 +1,197 @@
+//! Each printer, with the bytes that an independent program of the same rules gives.
+
+use crate::faults::{
+    print_absent, print_agf_fault, print_cross_fault, print_read_fault, print_too_long, print_usage,
+};
+use crate::glass::{print_glass, print_glasses};
+use crate::index::print_index;
+use crate::pieces::Line;
+use arrayvec::ArrayVec;
+use fixdec::dec::Dec;
+use fixdec::span::Span;
+use lensmodel::fault::{AgfFault, CrossFault, TextFault};
+use lensmodel::glass::Glass;
+use lensmodel::name::Name;
+use lensmodel::status::FileKind;
+
+fn name(letters: &[u8]) -> Name {
+    let mut units: Name = ArrayVec::new();
+    for letter in letters {
+        let _ = units.try_push(u16::from(*letter));
+    }
+    units
+}
+
+#[test]
+fn index(rt: HostRuntime) {
+    let mut out = Line::new();
+    let wave = Dec {
+        mant: 5875618,
+        exp: -7,
+    };
+    let n = Span {
+        lo: 1516800034498,
+        hi: 1516800034504,
+    };
+    print_index(&name(b"N-BK7"), &wave, n, &mut out);
+    assert_eq!(rt;
+        out.as_str(),
+        "index N-BK7 5875618e-7 [1.516800034498,1.516800034504]\n"
+    );
+}
+
+#[test]
+fn glasses(rt: HostRuntime) {
+    let mut out = Line::new();
+    print_glasses(3, &mut out);
+    assert_eq!(rt; out.as_str(), "glasses 3\n");
+}
+
+#[test]
+fn glass_with_a_range(rt: HostRuntime) {
+    let mut out = Line::new();
+    let zero = Dec::default();
+    let glass = Glass {
+        name: name(b"B"),
+        formula: 1,
+        c0: Dec { mant: -25, exp: -1 },
+        c1: zero,
+        c2: Dec { mant: 3, exp: 2 },
+        c3: zero,
+        c4: zero,
+        c5: Dec { mant: 7, exp: 0 },
+        low: Some(Dec { mant: -1, exp: 0 }),
+        high: Some(Dec { mant: 3, exp: 2 }),
+    };
+    print_glass(&glass, &mut out);
+    assert_eq!(rt;
+        out.as_str(),
+        "glass B formula 1 low -1 high 3e2 coef -25e-1 0 3e2 0 0 7\n"
+    );
+}
+
+#[test]
+fn glass_without_a_range(rt: HostRuntime) {
+    let mut out = Line::new();
+    let zero = Dec::default();
+    let glass = Glass {
+        name: name(b"A\xC4~\x7F!"),
+        formula: 13,
+        c0: zero,
+        c1: zero,
+        c2: zero,
+        c3: zero,
+        c4: zero,
+        c5: zero,
+        low: None,
+        high: None,
+    };
+    print_glass(&glass, &mut out);
+    assert_eq!(rt;
+        out.as_str(),
+        "glass A?~?! formula 13 low - high - coef 0 0 0 0 0 0\n"
+    );
+}
+
+#[test]
+fn usage(rt: HostRuntime) {
+    let mut out = Line::new();
+    print_usage(&mut out);
+    assert_eq!(rt; out.as_str(), "usage\n");
+}
+
+#[test]
+fn absent_files(rt: HostRuntime) {
+    for (file, text) in [
+        (FileKind::Zmx, "absent zmx\n"),
+        (FileKind::Agf, "absent agf\n"),
+        (FileKind::Job, "absent job\n"),
+        (FileKind::Tol, "absent tol\n"),
+        (FileKind::Cert, "absent cert\n"),
+        (FileKind::Script, "absent script\n"),
+    ] {
+        let mut out = Line::new();
+        print_absent(file, &mut out);
+        assert_eq!(rt; out.as_str(), text);
+    }
+}
+
+#[test]
+fn files_that_are_not_read(rt: HostRuntime) {
+    let mut out = Line::new();
+    print_read_fault(FileKind::Agf, &mut out);
+    assert_eq!(rt; out.as_str(), "read fault agf\n");
+    let mut out = Line::new();
+    print_too_long(FileKind::Agf, &mut out);
+    assert_eq!(rt; out.as_str(), "too long agf\n");
+}
+
+#[test]
+fn refused_catalogues(rt: HostRuntime) {
+    for (fault, text) in [
+        (AgfFault::Text(TextFault::OddByte), "refused agf odd-byte\n"),
+        (
+            AgfFault::Text(TextFault::Surrogate { line: 2 }),
+            "refused agf surrogate line 2\n",
+        ),
+        (
+            AgfFault::Text(TextFault::LongLine { line: 1 }),
+            "refused agf long-line line 1\n",
+        ),
+        (
+            AgfFault::OrphanRecord { line: 1 },
+            "refused agf orphan-record line 1\n",
+        ),
+        (
+            AgfFault::MissingWord { line: 2 },
+            "refused agf missing-word line 2\n",
+        ),
+        (
+            AgfFault::BadNumber { line: 2, word: 3 },
+            "refused agf bad-number line 2 word 3\n",
+        ),
+        (
+            AgfFault::LongName { line: 1 },
+            "refused agf long-name line 1\n",
+        ),
+        (
+            AgfFault::TooManyGlasses { line: 4097 },
+            "refused agf too-many-glasses line 4097\n",
+        ),
+    ] {
+        let mut out = Line::new();
+        print_agf_fault(fault, &mut out);
+        assert_eq!(rt; out.as_str(), text);
+    }
+}
+
+#[test]
+fn files_that_do_not_fit(rt: HostRuntime) {
+    for (fault, text) in [
+        (
+            CrossFault::NoGlass { surface: 0 },
+            "refused cross no-glass surface 0\n",
+        ),
+        (
+            CrossFault::Formula { surface: 1 },
+            "refused cross formula surface 1\n",
+        ),
+        (CrossFault::NoWave, "refused cross no-wave\n"),
+        (
+            CrossFault::WaveRange { surface: 0 },
+            "refused cross wave-range surface 0\n",
+        ),
+        (
+            CrossFault::BadIndex { surface: 0 },
+            "refused cross bad-index surface 0\n",
+        ),
+        (
+            CrossFault::MirrorIndex { surface: 63 },
+            "refused cross mirror-index surface 63\n",
+        ),
+    ] {
+        let mut out = Line::new();
+        print_cross_fault(fault, &mut out);
+        assert_eq!(rt; out.as_str(), text);
+    }
+}
