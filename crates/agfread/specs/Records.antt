@@ -1,10 +1,10 @@
 -- What one record of a catalogue says, word by word. A line is its list of words.
-use Rattle.std.specs.Prelude.{ℕ, zero, suc, Bool, true, false, [], ◌∷◌, nat_le, nat_lt, length, take, drop, Option, Some, None, if◌then◌else◌}
+use Rattle.std.specs.Prelude.{ℕ, zero, suc, Bool, true, false, [], ◌∷◌, Option, Some, None, if◌then◌else◌}
 use Rattle.fixdec.specs.Reading.{decimal_of}
-use Rattle.lensmodel.specs.Catalogue.{fault_if, bad_unless, no_formula, formula_of, is_used, coefficient_in, bound_in, first_bad}
-use Rattle.lensmodel.specs.Records.{Words, word_at, or_first}
+use Rattle.lensmodel.specs.Catalogue.{CD_fault, LD_fault, bad_unless, is_used, coefficient_in, bound_in}
+use Rattle.lensmodel.specs.Records.{Words, word_at}
 use Rattle.lensmodel.specs.declared.fault.AgfFault.{AgfFault}
-use Rattle.lensmodel.specs.declared.fault.AgfFault.TheVariants.{BadNumber, LongName, MissingWord, OrphanRecord, TooManyGlasses}
+use Rattle.lensmodel.specs.declared.fault.AgfFault.TheVariants.{BadNumber, OrphanRecord}
 use Rattle.lensmodel.specs.declared.glass.Glass.{Glass}
 
 -- whether a line has a word of a number, counted from 0
@@ -31,22 +31,6 @@ with_coefficients line g = record g {
 -- a glass with the bounds of an LD line
 abbrev pub with_bounds : Words → Glass → Glass
 with_bounds line g = record g { low = bound_in (Some line) 1; high = bound_in (Some line) 2 }
-
--- the faults of an NM line behind a number of others
-abbrev pub NM_fault : ℕ → ℕ → Words → Option AgfFault
-NM_fault n seen line =
-    or_first (fault_if (nat_lt (length line) 3) (MissingWord n))
-    (or_first (fault_if (no_formula (formula_of (word_at 2 line))) (BadNumber n 3))
-    (or_first (fault_if (nat_lt 40 (length (word_at 1 line))) (LongName n))
-    (fault_if (nat_le 4096 seen) (TooManyGlasses n))))
-
--- the faults of a CD line that is used
-abbrev pub CD_fault : ℕ → Words → Option AgfFault
-CD_fault n line = first_bad n 2 (take 6 (drop 1 line))
-
--- the faults of an LD line of a glass
-abbrev pub LD_fault : ℕ → Words → Option AgfFault
-LD_fault n line = or_first (fault_if (nat_lt (length line) 3) (MissingWord n)) (first_bad n 2 (take 2 (drop 1 line)))
 
 -- the faults of a CD line, where a glass may be open
 abbrev pub open_CD_fault : ℕ → Option Glass → Words → Option AgfFault

@@ -1,10 +1,10 @@
 //! The glass of a record.
 
 ghost use Rattle.std.specs.Prelude.{◌≡◌, ◌≤◌, ◌<◌, [], Some, None, length, IfOk, IfErr, OnOk};
-ghost use Rattle.lensmodel.specs.Catalogue.{glass_of};
+ghost use Rattle.lensmodel.specs.Catalogue.{glass_of, NM_fault, CD_fault, LD_fault};
 ghost use Rattle.lensmodel.specs.TextLines.{words};
 ghost use Rattle.lensmodel.specs.Values.{zero_decimal};
-ghost use Rattle.agfread.specs.Records.{NM_fault, CD_fault, LD_fault, with_coefficients, with_bounds};
+ghost use Rattle.agfread.specs.Records.{with_coefficients, with_bounds};
 
 use crate::number::{formula, number};
 use crate::record::Record;

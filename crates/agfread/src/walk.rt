@@ -1,9 +1,9 @@
 //! The walk along the lines of a catalogue.
 
 ghost use Rattle.std.specs.Prelude.{◌≡◌, ◌≢◌, ◌++◌, ◌∷◌, ◌+◌, [], List, None, Some, IfOk, IfErr, OnOk};
-ghost use Rattle.lensmodel.specs.Catalogue.{offence, glass_of};
+ghost use Rattle.lensmodel.specs.Catalogue.{offence, glass_of, NM_fault};
 ghost use Rattle.lensmodel.specs.Records.{Words};
-ghost use Rattle.agfread.specs.Records.{NM_fault, open_CD_fault, open_LD_fault, after_CD, after_LD};
+ghost use Rattle.agfread.specs.Records.{open_CD_fault, open_LD_fault, after_CD, after_LD};
 ghost use Rattle.lensmodel.specs.TextLines.{words};
 ghost use Rattle.agfread.specs.Walked.{closed_with};
 ghost use Rattle.agfread.specs.Readers.{IsAt};

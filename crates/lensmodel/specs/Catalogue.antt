@@ -30,11 +30,12 @@ small_number None = None
 abbrev pub formula_of : List ℕ → Option ℕ
 formula_of w = small_number (whole_decimal (decimal_of w))
 
--- the formula of an NM line
+-- a formula number, or 0 where there is none
 abbrev pub formula_or_0 : Option ℕ → ℕ
 formula_or_0 (Some n) = n
 formula_or_0 None = 0
 
+-- the formula of an NM line
 abbrev pub formula_number : Words → ℕ
 formula_number nm = formula_or_0 (formula_of (word_at 2 nm))
 
@@ -47,11 +48,12 @@ abbrev pub fault_if : Bool → AgfFault → Option AgfFault
 fault_if true fault = Some fault
 fault_if false fault = None
 
--- the first word that is no decimal, the words being counted from k
+-- a fault unless there is a decimal
 abbrev pub bad_unless : Option Decimal → AgfFault → Option AgfFault
 bad_unless (Some d) fault = None
 bad_unless None fault = Some fault
 
+-- the first word that is no decimal, the words being counted from k
 abbrev pub first_bad : ℕ → ℕ → Words → Option AgfFault
 first_bad n k [] = None
 first_bad n k (w ∷ more) = or_first (bad_unless (decimal_of w) (BadNumber n k)) (first_bad n (suc k) more)
@@ -60,23 +62,35 @@ abbrev pub no_formula : Option ℕ → Bool
 no_formula (Some formula) = false
 no_formula None = true
 
--- NM: a missing word, a formula that isn't one, a long name, one glass too many
-abbrev pub NM_offence : ℕ → List Words → Words → Option AgfFault
-NM_offence n before line =
+-- NM behind so many others: a missing word, a formula that isn't one, a long name, one glass too many
+abbrev pub NM_fault : ℕ → ℕ → Words → Option AgfFault
+NM_fault n seen line =
     or_first (fault_if (nat_lt (length line) 3) (MissingWord n))
     (or_first (fault_if (no_formula (formula_of (word_at 2 line))) (BadNumber n 3))
     (or_first (fault_if (nat_lt 40 (length (word_at 1 line))) (LongName n))
-    (fault_if (nat_le 4096 (count_where is_NM before)) (TooManyGlasses n))))
+    (fault_if (nat_le 4096 seen) (TooManyGlasses n))))
 
--- CD: no glass before; else, for a formula that is used, the first of up to six words that is no decimal
+-- CD of a formula that is used: the first of up to six words that is no decimal
+abbrev pub CD_fault : ℕ → Words → Option AgfFault
+CD_fault n line = first_bad n 2 (take 6 (drop 1 line))
+
+-- LD of a glass: a missing word, or a bound that is no decimal
+abbrev pub LD_fault : ℕ → Words → Option AgfFault
+LD_fault n line = or_first (fault_if (nat_lt (length line) 3) (MissingWord n)) (first_bad n 2 (take 2 (drop 1 line)))
+
+-- an NM line behind other lines
+abbrev pub NM_offence : ℕ → List Words → Words → Option AgfFault
+NM_offence n before line = NM_fault n (count_where is_NM before) line
+
+-- a CD line, where an NM line may have come before
 abbrev pub CD_offence : ℕ → Option Words → Words → Option AgfFault
 CD_offence n None line = Some (OrphanRecord n)
-CD_offence n (Some nm) line = if is_used (formula_number nm) then first_bad n 2 (take 6 (drop 1 line)) else None
+CD_offence n (Some nm) line = if is_used (formula_number nm) then CD_fault n line else None
 
--- LD: no glass before, a missing word, or a bound that is no decimal
+-- an LD line, where an NM line may have come before
 abbrev pub LD_offence : ℕ → Option Words → Words → Option AgfFault
 LD_offence n None line = Some (OrphanRecord n)
-LD_offence n (Some nm) line = or_first (fault_if (nat_lt (length line) 3) (MissingWord n)) (first_bad n 2 (take 2 (drop 1 line)))
+LD_offence n (Some nm) line = LD_fault n line
 
 -- all other lines aren't used
 abbrev pub offence : ℕ → List Words → Words → Option AgfFault
