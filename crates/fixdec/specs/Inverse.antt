@@ -5,7 +5,7 @@ use Rattle.std.specs.Prelude.{ℤ, pos, negsuc, ◌≤ℤ◌}
 use Rattle.fixdec.specs.Ring.{var, con, ◌⊗◌, neg}
 use Rattle.fixdec.specs.Frac.{Frac, ◌≈◌, ◌*Q◌, whole}
 use Rattle.fixdec.specs.IntLaws.{ringℤ}
-use Rattle.fixdec.specs.FracLaws.{is, is_mul, is_whole, same_if}
+use Rattle.fixdec.specs.Terms.{is, is_mul, is_whole, same_if}
 use Rattle.fixdec.specs.Order.{NonNeg}
 
 -- one over n / (d + 1), and 0 for 0

@@ -29,6 +29,7 @@ pub mod Rounding
 pub mod RoundingLaws
 pub mod Scaled
 pub mod Steps
+pub mod Terms
 pub mod Within
 pub mod Word
 pub mod Zone

@@ -7,7 +7,8 @@ use native.Mathlib.Nat.{mul-le-mul, mul-le-mul_left}
 use Rattle.fixdec.specs.Ring.{var, con, ◌⊕◌, ◌⊗◌, ◌⊖◌, neg, none, take, done, most}
 use Rattle.fixdec.specs.Frac.{Frac, den, ◌≈◌, ◌≤Q◌, ◌<Q◌, ◌+Q◌, ◌*Q◌, whole, less_both}
 use Rattle.fixdec.specs.IntLaws.{ringℤ}
-use Rattle.fixdec.specs.FracLaws.{is, is_mul, is_whole, same_if, den_both, Q-IsRing, ≈_refl, ≈_sym, ≈_trans}
+use Rattle.fixdec.specs.FracLaws.{Q-IsRing, ≈_refl, ≈_sym, ≈_trans}
+use Rattle.fixdec.specs.Terms.{is, is_mul, is_whole, same_if, den_both}
 use Rattle.fixdec.specs.Order.{nn_out, nn_in, nn_whole, nn_times, le_from, le_trans, le_of_same, le_whole, cancel_Q}
 use Rattle.fixdec.specs.OrderLaws.{zero_le_one}
 use Rattle.fixdec.specs.Root.{root, root_is}

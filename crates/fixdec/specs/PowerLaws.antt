@@ -11,7 +11,8 @@ use borrow.Author.Differences.{up, down}
 use Rattle.fixdec.specs.Decimal.{Decimal, tenth_power, ten_power, value}
 use Rattle.fixdec.specs.Ends.{Ends}
 use Rattle.fixdec.specs.Frac.{Frac, den, whole, neg_Q, ◌≈◌, ◌*Q◌, ◌-Q◌}
-use Rattle.fixdec.specs.FracLaws.{Is, is, is_mul, is_whole, same_if, cancel, ≈_sym, ≈_trans}
+use Rattle.fixdec.specs.FracLaws.{≈_sym, ≈_trans}
+use Rattle.fixdec.specs.Terms.{Is, is, is_mul, is_whole, same_if, cancel}
 use Rattle.fixdec.specs.IntLaws.{ringℤ}
 use Rattle.fixdec.specs.Interval.{ends, fits_cap}
 use Rattle.fixdec.specs.Linear.{linear, fact, no_fact, reads}

@@ -7,7 +7,8 @@ use native.Mathlib.Nat.{div-mul-le_self, lt-div-mul-add}
 use Rattle.fixdec.specs.Ring.{var, con, ◌⊕◌, ◌⊗◌, neg}
 use Rattle.fixdec.specs.Frac.{Frac, ◌≈◌, ◌≤Q◌, ◌*Q◌, neg_Q, whole}
 use Rattle.fixdec.specs.IntLaws.{ringℤ}
-use Rattle.fixdec.specs.FracLaws.{is, is_mul, is_neg, is_whole, same_if, ≈_sym}
+use Rattle.fixdec.specs.FracLaws.{≈_sym}
+use Rattle.fixdec.specs.Terms.{is, is_mul, is_neg, is_whole, same_if}
 use Rattle.fixdec.specs.Linear.{linear, name, no_fact, reads}
 use Rattle.fixdec.specs.Order.{scale_le, cancel_Q, le_trans, le_whole, le_whole_out}
 use Rattle.fixdec.specs.OrderLaws.{le_along, le_neg, le_mul, le_cancel, le_same_left, le_same_right, lt_whole, whole_mul, whole_neg, zero_le_whole}

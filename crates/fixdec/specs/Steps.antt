@@ -20,3 +20,9 @@ pub OnVal-then : {A B : Type 0} (r : Step A) (f : A → Step B) (Q : A → Type 
 OnVal-then (Val a) f Q P h k = k a h
 OnVal-then Empty f Q P h k = absurd h
 OnVal-then (Lost w) f Q P h k = tt
+
+-- what follows of a value
+pub OnVal-map : {A : Type 0} (r : Step A) (P Q : A → Type 0) → ((x : A) → P x → Q x) → OnVal r P → OnVal r Q
+OnVal-map (Val x) P Q f h = f x h
+OnVal-map Empty P Q f h = h
+OnVal-map (Lost w) P Q f h = tt

@@ -1,19 +1,18 @@
 -- Laws of single rows: written numbers, exact equations and equations within the residual, in every lawful arithmetic.
-use Rattle.std.proofs.Common.{ℕ, [], ◌∷◌, ◌^◌}
+use Rattle.std.proofs.Common.{ℕ, [], ◌∷◌}
 use Rattle.std.specs.Prelude.{ℤ, pos}
 use Rattle.fixdec.specs.Decimal.{Decimal, value}
 use Rattle.fixdec.specs.Frac.{Frac, ◌≈◌, ◌≤Q◌, ◌*Q◌, whole}
 use Rattle.fixdec.specs.FracLaws.{≈_sym}
 use Rattle.fixdec.specs.Linear.{linear, linear_le, name, order, no_fact, reads}
 use Rattle.fixdec.specs.Member.{IsMember, IsNear, Symbols, units}
+use Rattle.fixdec.specs.MemberLaws.{units_nn}
 use Rattle.fixdec.specs.Operations.{Operations, IsLawful}
-use Rattle.fixdec.specs.Order.{nn_in, nn_whole}
-use Rattle.fixdec.specs.OrderLaws.{le_same_left, le_same_right}
+use Rattle.fixdec.specs.OrderLaws.{le_same_left, le_same_right, zero_le_one}
 use Rattle.fixdec.specs.PowerLaws.{dec_span_member}
 use Rattle.fixdec.specs.Scaled.{dec_span}
-use Rattle.fixdec.specs.Steps.{OnVal, OnVal-then}
+use Rattle.fixdec.specs.Steps.{OnVal, OnVal-then, OnVal-map}
 use Rattle.fixdec.specs.declared.step.Step.{Step}
-use Rattle.fixdec.specs.declared.step.Step.TheVariants.{Val, Empty, Lost}
 use Rattle.lensmodel.specs.Constants.{decimal_row, whole_row}
 use Rattle.lensmodel.specs.Residual.{IsWithin}
 
@@ -21,19 +20,13 @@ use Rattle.lensmodel.specs.Residual.{IsWithin}
 abbrev pub Covers : ℕ → Frac → ℤ → Type 0
 Covers scale eps e = eps *Q units scale ≤Q whole e
 
-one_nn : whole (pos 0) ≤Q whole (pos 1)
-one_nn = nn_in (nn_whole 1)
-
-units_nn : (scale : ℕ) → whole (pos 0) ≤Q units scale
-units_nn scale = nn_in (nn_whole (10 ^ scale))
-
 -- two numbers within eps are near in units of the scale
 pub near_within : (scale : ℕ) (e : ℤ) (eps f g : Frac) → Covers scale eps e → IsWithin eps g f → IsNear scale e f g
 near_within scale e eps f g h w = record {
   above = linear_le (f ∷ g ∷ eps ∷ units scale ∷ whole e ∷ []) _ _ (search reads depth 20 fits 4000)
-      (order (units_nn scale) w.below (search reads depth 20 fits 4000) (order one_nn h (search reads depth 20 fits 4000) no_fact)) tt;
+      (order (units_nn scale) w.below (search reads depth 20 fits 4000) (order zero_le_one h (search reads depth 20 fits 4000) no_fact)) tt;
   below = linear_le (f ∷ g ∷ eps ∷ units scale ∷ whole e ∷ []) _ _ (search reads depth 20 fits 4000)
-      (order (units_nn scale) w.above (search reads depth 20 fits 4000) (order one_nn h (search reads depth 20 fits 4000) no_fact)) tt;
+      (order (units_nn scale) w.above (search reads depth 20 fits 4000) (order zero_le_one h (search reads depth 20 fits 4000) no_fact)) tt;
 }
 
 -- equal sides may be exchanged
@@ -43,16 +36,10 @@ within_right eps a b c h w = record {
   below = le_same_right w.below (linear (b ∷ c ∷ eps ∷ []) _ _ (search reads depth 16) (name h (search reads depth 16) no_fact) tt);
 }
 
--- what follows of a value
-pub on_map : {A : Type 0} (r : Step A) (P Q : A → Type 0) → ((x : A) → P x → Q x) → OnVal r P → OnVal r Q
-on_map (Val x) P Q f h = f x h
-on_map Empty P Q f h = h
-on_map (Lost w) P Q f h = tt
-
 module _ {A : Type 0} (scale : ℕ) (o : Operations A) (member : A → Symbols → Frac → Type 0) (law : IsLawful scale o member) (s : Symbols) where
   -- an answer that holds a fraction holds each equal one
   pub on_same : (r : Step A) (u v : Frac) → u ≈ v → OnVal r (λ x. member x s u) → OnVal r (λ x. member x s v)
-  on_same r u v h k = on_map r (λ x. member x s u) (λ x. member x s v) (λ x m. law.same s x u v h m) k
+  on_same r u v h k = OnVal-map r (λ x. member x s u) (λ x. member x s v) (λ x m. law.same s x u v h m) k
 
   -- a decimal's value, and a whole number
   pub decimal_member : (d : Decimal) → OnVal (decimal_row o scale d) (λ r. member r s (value d))
