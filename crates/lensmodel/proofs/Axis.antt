@@ -1,10 +1,11 @@
--- The chain along the axis of a sphere into glass.
+-- The chain along the axis of a sphere into glass, and its place in the printed intervals.
 use Rattle.std.proofs.Common.{ℕ, zero, suc, ◌<◌, refl, arith}
 use Rattle.std.specs.Prelude.{pos}
 use Rattle.fixdec.specs.Frac.{◌+Q◌, ◌*Q◌, ◌-Q◌, neg_Q, whole}
 use Rattle.fixdec.specs.Member.{Symbols}
 use Rattle.lensmodel.specs.Bending.{Bends}
 use Rattle.lensmodel.specs.Chains.{IsWhole}
+use Rattle.lensmodel.specs.Claims.{HoldsPlace, HoldsHeading}
 use Rattle.lensmodel.specs.Crossing.{Transfers, Crosses}
 use Rattle.lensmodel.specs.Dispersion.{IsIndex, IsFormula}
 use Rattle.lensmodel.specs.Media.{medium_at}
@@ -12,7 +13,8 @@ use Rattle.lensmodel.specs.Start.{Starts}
 use Rattle.lensmodel.specs.Values.{eps, owner}
 use Rattle.lensmodel.specs.Worked.{flat_glass, sphere_setup, axis_ray}
 use Rattle.lensmodel.specs.WorkedChains.{axis_chain}
-use Rattle.lensmodel.proofs.Concrete.{same, at_most, less_than, near}
+use Rattle.lensmodel.specs.WorkedRow.{axis_vertex, axis_heading, axis_image}
+use Rattle.lensmodel.proofs.Concrete.{same, at_most, less_than, near, inside}
 
 -- the square of the glass's index is 9/4 at half a micrometre
 pub formula : IsFormula flat_glass (record { num = pos 25; less = 99 }) (record { num = pos 9; less = 3 })
@@ -74,3 +76,15 @@ module _ (symbols : Symbols) where
 
   pub axis_whole : IsWhole sphere_setup axis_ray (axis_chain symbols)
   axis_whole = record { start = starts; index = indexed; transfer = transfers; crossing = crosses; bending = bends }
+
+  pub axis_vertex_holds : HoldsPlace 6 axis_vertex (axis_chain symbols) 1
+  unfolding ◌*Q◌ whole
+  axis_vertex_holds = record { rho = inside tt tt; x = inside tt tt; y = inside tt tt; z = inside tt tt; path = inside tt tt }
+
+  pub axis_heading_holds : HoldsHeading 6 axis_heading (axis_chain symbols) 1
+  unfolding ◌*Q◌ whole
+  axis_heading_holds = record { l = inside tt tt; m = inside tt tt; n = inside tt tt }
+
+  pub axis_image_holds : HoldsPlace 6 axis_image (axis_chain symbols) 2
+  unfolding ◌*Q◌ whole
+  axis_image_holds = record { rho = inside tt tt; x = inside tt tt; y = inside tt tt; z = inside tt tt; path = inside tt tt }

@@ -4,7 +4,8 @@ use Rattle.fixdec.specs.Interval.{iv_size}
 use Rattle.fixdec.specs.IntervalOperations.{operations}
 use Rattle.fixdec.specs.Zone.{zone, norm, least_power}
 use Rattle.lensmodel.specs.ComputedAspheres.{SphericalHeight, BentHeight, PastZone, AtZone, BowlLost, BowlRoot, BowlAsConic, spherical, bent, bowl, paraboloid, steep_ray, asphere_setup}
-use Rattle.lensmodel.specs.ComputedRows.{ones, tenths, ray_at}
+use Rattle.lensmodel.specs.ComputedRows.{ones, tenths}
+use Rattle.lensmodel.specs.Worked.{level_ray}
 use Rattle.lensmodel.specs.SagRows.{sag_rows}
 use Rattle.lensmodel.specs.SlopeRounds.{round_rows}
 use Rattle.lensmodel.proofs.ComputedRows.{opened, row_by_trying}
@@ -17,19 +18,19 @@ opened_aspheres = 0
 
 pub spherical_height : SphericalHeight
 unfolding opened_aspheres
-spherical_height = asphere_by_trying 6 (asphere_setup spherical) (ray_at (ones 6)) _ refl
+spherical_height = asphere_by_trying 6 (asphere_setup spherical) (level_ray (ones 6)) _ refl
 
 pub bent_height : BentHeight
 unfolding opened_aspheres
-bent_height = asphere_by_trying 6 (asphere_setup bent) (ray_at (ones 6)) _ refl
+bent_height = asphere_by_trying 6 (asphere_setup bent) (level_ray (ones 6)) _ refl
 
 pub past_zone : PastZone
 unfolding opened_aspheres
-past_zone = asphere_by_trying 6 (asphere_setup bent) (ray_at (ones 9)) _ refl
+past_zone = asphere_by_trying 6 (asphere_setup bent) (level_ray (ones 9)) _ refl
 
 pub at_zone : AtZone
 unfolding opened_aspheres
-at_zone = asphere_by_trying 6 (asphere_setup bent) (ray_at (tenths 88)) _ refl
+at_zone = asphere_by_trying 6 (asphere_setup bent) (level_ray (tenths 88)) _ refl
 
 pub bowl_lost : BowlLost
 unfolding opened_aspheres

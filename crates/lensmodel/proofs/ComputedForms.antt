@@ -2,8 +2,8 @@
 use Rattle.std.proofs.Common.{refl}
 use Rattle.lensmodel.specs.ComputedAspheres.{asphere_setup, bent}
 use Rattle.lensmodel.specs.ComputedForms.{PlaneInForms, AsphereInForms, OutsideInForms, ReflectedInForms, VignettedInForms, TieInForms, FormDifference, FormQuotient, FormProduct, rigid}
-use Rattle.lensmodel.specs.ComputedRows.{ones, tenths, ray_at, ray_sloped, rim_setup, from_glass_setup}
-use Rattle.lensmodel.specs.Worked.{plane_setup, sphere_setup, slanted_ray}
+use Rattle.lensmodel.specs.ComputedRows.{ones, tenths, ray_sloped}
+use Rattle.lensmodel.specs.Worked.{level_ray, rim_setup, glass_setup, plane_setup, sphere_setup, slanted_ray}
 use Rattle.lensmodel.proofs.ComputedAspheres.{opened_aspheres}
 use Rattle.lensmodel.proofs.ComputedBoxes.{opened_forms, forms_by_trying, form_row_by_trying}
 use Rattle.lensmodel.proofs.TriedCells.{asphere_forms_by_trying}
@@ -14,23 +14,23 @@ plane_in_forms = forms_by_trying 6 (rigid plane_setup) slanted_ray _ refl
 
 pub asphere_in_forms : AsphereInForms
 unfolding opened_forms opened_aspheres
-asphere_in_forms = asphere_forms_by_trying 6 (rigid (asphere_setup bent)) (ray_at (ones 6)) _ refl
+asphere_in_forms = asphere_forms_by_trying 6 (rigid (asphere_setup bent)) (level_ray (ones 6)) _ refl
 
 pub outside_in_forms : OutsideInForms
 unfolding opened_forms
-outside_in_forms = forms_by_trying 6 (rigid sphere_setup) (ray_at (ones 11)) _ refl
+outside_in_forms = forms_by_trying 6 (rigid sphere_setup) (level_ray (ones 11)) _ refl
 
 pub reflected_in_forms : ReflectedInForms
 unfolding opened_forms
-reflected_in_forms = forms_by_trying 6 (rigid from_glass_setup) (ray_sloped (tenths 12)) _ refl
+reflected_in_forms = forms_by_trying 6 (rigid glass_setup) (ray_sloped (tenths 12)) _ refl
 
 pub vignetted_in_forms : VignettedInForms
 unfolding opened_forms
-vignetted_in_forms = forms_by_trying 6 (rigid rim_setup) (ray_at (tenths 51)) _ refl
+vignetted_in_forms = forms_by_trying 6 (rigid rim_setup) (level_ray (tenths 51)) _ refl
 
 pub tie_in_forms : TieInForms
 unfolding opened_forms
-tie_in_forms = form_row_by_trying (rigid rim_setup) (ray_at (ones 5)) _ refl
+tie_in_forms = form_row_by_trying (rigid rim_setup) (level_ray (ones 5)) _ refl
 
 pub form_difference : FormDifference
 unfolding opened_forms

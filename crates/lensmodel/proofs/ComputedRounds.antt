@@ -9,7 +9,8 @@ use Rattle.fixdec.specs.declared.step.Step.TheVariants.{Val}
 use Rattle.lensmodel.specs.ComputedAspheres.{asphere_setup, bent}
 use Rattle.lensmodel.specs.ComputedFolds.{folded_setup, skew_ray}
 use Rattle.lensmodel.specs.ComputedRounds.{BentParts, FrontParts, SteepRounds, first_parts, steep_asphere}
-use Rattle.lensmodel.specs.ComputedRows.{ones, tenths, ray_at}
+use Rattle.lensmodel.specs.ComputedRows.{ones, tenths}
+use Rattle.lensmodel.specs.Worked.{level_ray}
 use Rattle.lensmodel.specs.CrossingRows.{foot_rows}
 use Rattle.lensmodel.specs.Preparation.{preparation_rows}
 use Rattle.lensmodel.specs.SlopeRounds.{window_row, hulls, zone2_of, round_rows}
@@ -40,7 +41,7 @@ parts_by_trying s ray x h = subst (λ o. parts_by (o 6) s ray ≡ x) same_operat
 
 pub bent_parts : BentParts
 unfolding opened_aspheres parts_by
-bent_parts = parts_by_trying (asphere_setup bent) (ray_at (ones 6)) _ refl
+bent_parts = parts_by_trying (asphere_setup bent) (level_ray (ones 6)) _ refl
 
 pub front_parts : FrontParts
 unfolding opened_aspheres parts_by

@@ -7,7 +7,8 @@ use Rattle.fixdec.specs.IntervalOperations.{operations}
 use Rattle.fixdec.specs.Operations.{Operations}
 use Rattle.fixdec.specs.Scaled.{dec_floor, dec_ceil, dec_span, dec_shifted}
 use Rattle.lensmodel.specs.BendingRows.{bend_rows, stay_rows}
-use Rattle.lensmodel.specs.ComputedRows.{SlantedPlane, SphereHeight, GlassAxis, MirrorFocus, PastSphere, BehindEquator, TotalReflection, OutsideRim, InsideRim, FanRay, AimedRay, row_in_intervals, ones, tenths, ray_at, ray_sloped, plane_before, air_sphere_setup, mirror_setup, from_glass_setup, rim_setup, bounded_by}
+use Rattle.lensmodel.specs.ComputedRows.{SlantedPlane, SphereHeight, GlassAxis, MirrorFocus, PastSphere, BehindEquator, TotalReflection, OutsideRim, InsideRim, FanRay, AimedRay, row_in_intervals, ones, tenths, ray_sloped, plane_before, air_sphere_setup, bounded_by}
+use Rattle.lensmodel.specs.Worked.{level_ray, mirror_setup, glass_setup, rim_setup, plane_setup, slanted_ray, sphere_setup, axis_ray}
 use Rattle.lensmodel.specs.ComputedScales.{RimTie, WideBeforeUndecided, VignettedBeforeWide, WideAtFirst, FinerPasses, SphereEdge, GrazingRay, FarImage, FarthestImage, FinestResidual, LessFarImage, FartherImage, FinestPasses, CoarseResidual, FineResidual}
 use Rattle.lensmodel.specs.CrossingRows.{meet_standard_rows}
 use Rattle.lensmodel.specs.HitRows.{hit_rows}
@@ -16,7 +17,6 @@ use Rattle.lensmodel.specs.Outcome.{Outcome, outcome_at, row_of, walked}
 use Rattle.lensmodel.specs.Preparation.{preparation_rows}
 use Rattle.lensmodel.specs.StartRows.{start_rows}
 use Rattle.lensmodel.specs.Values.{zero_decimal}
-use Rattle.lensmodel.specs.Worked.{plane_setup, slanted_ray, sphere_setup, axis_ray}
 use Rattle.lensmodel.specs.declared.launch.Launch.{Launch}
 use Rattle.lensmodel.specs.declared.launch.Launch.TheVariants.{Plain, Pupil}
 use Rattle.lensmodel.specs.declared.row.Word.{Word}
@@ -51,7 +51,7 @@ slanted_plane = by_trying 6 plane_setup slanted_ray _ refl
 
 pub sphere_height : SphereHeight
 unfolding opened
-sphere_height = by_trying 6 air_sphere_setup (ray_at (ones 6)) _ refl
+sphere_height = by_trying 6 air_sphere_setup (level_ray (ones 6)) _ refl
 
 pub glass_axis : GlassAxis
 unfolding opened
@@ -59,11 +59,11 @@ glass_axis = by_trying 6 sphere_setup axis_ray _ refl
 
 pub mirror_focus : MirrorFocus
 unfolding opened
-mirror_focus = by_trying 6 mirror_setup (ray_at (ones 2)) _ refl
+mirror_focus = by_trying 6 mirror_setup (level_ray (ones 2)) _ refl
 
 pub past_sphere : PastSphere
 unfolding opened
-past_sphere = by_trying 6 sphere_setup (ray_at (ones 11)) _ refl
+past_sphere = by_trying 6 sphere_setup (level_ray (ones 11)) _ refl
 
 pub behind_equator : BehindEquator
 unfolding opened
@@ -71,27 +71,27 @@ behind_equator = by_trying 6 air_sphere_setup (Plain zero_decimal (ones 19) zero
 
 pub total_reflection : TotalReflection
 unfolding opened
-total_reflection = by_trying 6 from_glass_setup (ray_sloped (tenths 12)) _ refl
+total_reflection = by_trying 6 glass_setup (ray_sloped (tenths 12)) _ refl
 
 pub outside_rim : OutsideRim
 unfolding opened
-outside_rim = by_trying 6 rim_setup (ray_at (tenths 51)) _ refl
+outside_rim = by_trying 6 rim_setup (level_ray (tenths 51)) _ refl
 
 pub inside_rim : InsideRim
 unfolding opened
-inside_rim = by_trying 6 rim_setup (ray_at (tenths 49)) _ refl
+inside_rim = by_trying 6 rim_setup (level_ray (tenths 49)) _ refl
 
 pub rim_tie : RimTie
 unfolding opened
-rim_tie = row_by_trying rim_setup (ray_at (ones 5)) _ refl
+rim_tie = row_by_trying rim_setup (level_ray (ones 5)) _ refl
 
 pub wide_before_undecided : WideBeforeUndecided
 unfolding opened
-wide_before_undecided = row_by_trying (bounded_by (negsuc 11) rim_setup) (ray_at (ones 5)) _ refl
+wide_before_undecided = row_by_trying (bounded_by (negsuc 11) rim_setup) (level_ray (ones 5)) _ refl
 
 pub vignetted_before_wide : VignettedBeforeWide
 unfolding opened
-vignetted_before_wide = row_by_trying (bounded_by (negsuc 11) rim_setup) (ray_at (tenths 51)) _ refl
+vignetted_before_wide = row_by_trying (bounded_by (negsuc 11) rim_setup) (level_ray (tenths 51)) _ refl
 
 pub wide_at_first : WideAtFirst
 unfolding opened
@@ -103,11 +103,11 @@ finer_passes = row_by_trying (bounded_by (negsuc 3) plane_setup) slanted_ray _ r
 
 pub sphere_edge : SphereEdge
 unfolding opened
-sphere_edge = row_by_trying sphere_setup (ray_at (record { mant = pos 1; exp = pos 1 })) _ refl
+sphere_edge = row_by_trying sphere_setup (level_ray (record { mant = pos 1; exp = pos 1 })) _ refl
 
 pub grazing_ray : GrazingRay
 unfolding opened
-grazing_ray = row_by_trying from_glass_setup (ray_sloped (record { mant = pos 894427190999916; exp = negsuc 14 })) _ refl
+grazing_ray = row_by_trying glass_setup (ray_sloped (record { mant = pos 894427190999916; exp = negsuc 14 })) _ refl
 
 pub coarse_residual : CoarseResidual
 coarse_residual = refl
@@ -125,7 +125,7 @@ farthest_image = row_by_trying (plane_before (record { mant = pos 1; exp = pos 3
 
 pub finest_residual : FinestResidual
 unfolding opened
-finest_residual = row_by_trying (record rim_setup { res = 14 }) (ray_at (record { mant = pos 49999999999; exp = negsuc 9 })) _ refl
+finest_residual = row_by_trying (record rim_setup { res = 14 }) (level_ray (record { mant = pos 49999999999; exp = negsuc 9 })) _ refl
 
 pub fan_ray : FanRay
 unfolding opened

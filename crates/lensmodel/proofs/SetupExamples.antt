@@ -8,7 +8,8 @@ use Rattle.fixdec.specs.IntervalOperations.{operations}
 use Rattle.fixdec.specs.Scaled.{dec_floor, dec_ceil, dec_span}
 use Rattle.lensmodel.specs.Dispersion.{IsKnown}
 use Rattle.lensmodel.specs.SetupExamples.{MirrorIsWellFormed, AirIndices, Widths, Residuals, Sides, Places, Rims}
-use Rattle.lensmodel.specs.SmallLenses.{whole_dec, tenths, mirror_lens}
+use Rattle.lensmodel.specs.SmallLenses.{whole_dec, tenths}
+use Rattle.lensmodel.specs.Worked.{mirror_setup}
 use Rattle.lensmodel.specs.Values.{zero_decimal, reflects}
 use Rattle.lensmodel.specs.WellFormed.{IsWritten, IsWrittenSurface, IsSound, HasMedia, HasBox, HasGoodIndex}
 use Rattle.lensmodel.specs.WholeFaults.{whole_fault}
@@ -25,30 +26,30 @@ written_tenths : (z : ℤ) → IsWritten (tenths z)
 written_tenths z = record { low = omega (arith, ints); high = omega (arith, ints) }
 
 -- ---- a mirror alone is well formed
-mirror_surfaces : All IsWrittenSurface mirror_lens.lens.surfaces.items
+mirror_surfaces : All IsWrittenSurface mirror_setup.lens.surfaces.items
 mirror_surfaces zero d h = record { curv = written_0; conic = written_0; thick = tt; semi = tt; a1 = written_0; a2 = written_0; a3 = written_0; a4 = written_0; a5 = written_0; a6 = written_0; a7 = written_0; a8 = written_0 }
 mirror_surfaces (suc zero) d h = record { curv = written_tenths _; conic = written_1 _; thick = written_1 _; semi = tt; a1 = written_0; a2 = written_0; a3 = written_0; a4 = written_0; a5 = written_0; a6 = written_0; a7 = written_0; a8 = written_0 }
 mirror_surfaces (suc (suc zero)) d h = record { curv = written_0; conic = written_0; thick = written_0; semi = tt; a1 = written_0; a2 = written_0; a3 = written_0; a4 = written_0; a5 = written_0; a6 = written_0; a7 = written_0; a8 = written_0 }
 mirror_surfaces (suc (suc (suc k))) d h = absurd (omega arith)
 
-mirror_sound : IsSound mirror_lens.lens
+mirror_sound : IsSound mirror_setup.lens
 unfolding whole_fault
 mirror_sound = record { whole = refl; written = record { surfaces = mirror_surfaces; waves = λ k d h. absurd (omega arith) } }
 
-mirror_media : HasMedia mirror_lens
+mirror_media : HasMedia mirror_setup
 mirror_media = record { count = refl; known = known; mirrors = mirrors }
   where
-    known : All IsKnown mirror_lens.media.items
+    known : All IsKnown mirror_setup.media.items
     known zero d h = tt
     known (suc zero) d h = tt
     known (suc (suc k)) d h = absurd (omega arith)
 
-    mirrors : (j : ℕ) → IsTrue (reflects mirror_lens j) → slice_index_or mirror_lens.media.items j Air ≡ Air
+    mirrors : (j : ℕ) → IsTrue (reflects mirror_setup j) → slice_index_or mirror_setup.media.items j Air ≡ Air
     mirrors zero h = refl
     mirrors (suc zero) h = refl
     mirrors (suc (suc j)) h = refl
 
-no_box : HasBox mirror_lens
+no_box : HasBox mirror_setup
 no_box = record {
   box = record {
     count = omega arith;
@@ -59,7 +60,7 @@ no_box = record {
   mirrors = λ j h. refl;
 }
 
-mirror_index : (j : ℕ) → j < 2 → HasGoodIndex mirror_lens j
+mirror_index : (j : ℕ) → j < 2 → HasGoodIndex mirror_setup j
 unfolding operations ends iv_widen dec_floor dec_ceil dec_span
 mirror_index zero h = refl
 mirror_index (suc zero) h = refl

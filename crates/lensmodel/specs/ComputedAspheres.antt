@@ -1,9 +1,9 @@
 -- Rows of worked even aspheres in interval arithmetic, number for number.
 use Rattle.std.specs.Prelude.{◌≡◌, pos, negsuc, [], ◌∷◌, Some}
 use Rattle.fixdec.specs.declared.step.Why.TheVariants.{Root, Range}
-use Rattle.lensmodel.specs.ComputedRows.{Gives, row_in_intervals, outcome, place, headed, about, ones, tenths, ray_at}
+use Rattle.lensmodel.specs.ComputedRows.{Gives, row_in_intervals, outcome, place, headed, about, ones, tenths}
+use Rattle.lensmodel.specs.Worked.{level_ray, far_object, setup_of}
 use Rattle.lensmodel.specs.Values.{zero_decimal, plane}
-use Rattle.lensmodel.specs.Worked.{far_object, setup_of}
 use Rattle.lensmodel.specs.WorkedRow.{span}
 use Rattle.lensmodel.specs.declared.glass.Medium.TheVariants.{Air}
 use Rattle.lensmodel.specs.declared.launch.Launch.{Launch}
@@ -28,7 +28,7 @@ bent = record spherical { a2 = record { mant = pos 1; exp = negsuc 4 } }
 -- at the height 6 the sag of the sphere is 2
 abbrev pub SphericalHeight : Type 0
 SphericalHeight =
-    Gives 6 (asphere_setup spherical) (ray_at (ones 6)) Passes
+    Gives 6 (asphere_setup spherical) (level_ray (ones 6)) Passes
     (headed (place (span (pos 35999916) (pos 36000086)) (about 7) (span (pos 5999993) (pos 6000007)) (span (pos 1999989) (pos 2000011)) (span (pos 1999985) (pos 2000016))) (about 1) (about 1) (span (pos 999999) (pos 1000001))
     ∷ place (span (pos 35999688) (pos 36000314)) (about 26) (span (pos 5999974) (pos 6000026)) (about 1) (span (pos 9999963) (pos 10000039))
     ∷ [])
@@ -36,19 +36,19 @@ SphericalHeight =
 -- and that of the other one 2.01296
 abbrev pub BentHeight : Type 0
 BentHeight =
-    Gives 6 (asphere_setup bent) (ray_at (ones 6)) Passes
+    Gives 6 (asphere_setup bent) (level_ray (ones 6)) Passes
     (headed (place (span (pos 35999916) (pos 36000086)) (about 7) (span (pos 5999993) (pos 6000007)) (span (pos 2012947) (pos 2012973)) (span (pos 2012942) (pos 2012978))) (about 1) (about 1) (span (pos 999999) (pos 1000001))
     ∷ place (span (pos 35999700) (pos 36000302)) (about 25) (span (pos 5999975) (pos 6000025)) (about 1) (span (pos 9999958) (pos 10000042))
     ∷ [])
 
 -- a height of 9 is past the zone, which is 8.8
 abbrev pub PastZone : Type 0
-PastZone = Gives 6 (asphere_setup bent) (ray_at (ones 9)) (Outside 1) []
+PastZone = Gives 6 (asphere_setup bent) (level_ray (ones 9)) (Outside 1) []
 
 -- a height of 8.8 is the zone itself: rho ends with its square
 abbrev pub AtZone : Type 0
 AtZone =
-    Gives 6 (asphere_setup bent) (ray_at (tenths 88)) Passes
+    Gives 6 (asphere_setup bent) (level_ray (tenths 88)) Passes
     (headed (place (span (pos 77439771) (pos 77440000)) (about 13) (span (pos 8799987) (pos 8800013)) (span (pos 5310195) (pos 5310272)) (span (pos 5310187) (pos 5310280))) (about 1) (about 1) (span (pos 999999) (pos 1000001))
     ∷ place (span (pos 77439560) (pos 77440442)) (about 25) (span (pos 8799975) (pos 8800025)) (about 1) (span (pos 9999907) (pos 10000093))
     ∷ [])

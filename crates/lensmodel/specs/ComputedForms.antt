@@ -4,9 +4,9 @@ use Rattle.fixdec.specs.Form.{LinearForm, linear_operations, lin_minus, lin_time
 use Rattle.fixdec.specs.declared.step.Step.TheVariants.{Val}
 use Rattle.lensmodel.specs.ComputedAspheres.{asphere_setup, bent}
 use Rattle.lensmodel.specs.ComputedBoxes.{GivesInForms, boxed}
-use Rattle.lensmodel.specs.ComputedRows.{outcome, place, headed, about, ones, tenths, ray_at, ray_sloped, rim_setup, from_glass_setup}
+use Rattle.lensmodel.specs.ComputedRows.{outcome, place, headed, about, ones, tenths, ray_sloped}
+use Rattle.lensmodel.specs.Worked.{level_ray, rim_setup, glass_setup, plane_setup, sphere_setup, slanted_ray}
 use Rattle.lensmodel.specs.Outcome.{Outcome, outcome_at, row_of}
-use Rattle.lensmodel.specs.Worked.{plane_setup, sphere_setup, slanted_ray}
 use Rattle.lensmodel.specs.WorkedRow.{span}
 use Rattle.lensmodel.specs.declared.launch.Launch.{Launch}
 use Rattle.lensmodel.specs.declared.row.Word.TheVariants.{Passes, Vignetted, Outside, Tir, Undecided}
@@ -32,24 +32,24 @@ PlaneInForms =
 
 abbrev pub AsphereInForms : Type 0
 AsphereInForms =
-    GivesInForms 6 (rigid (asphere_setup bent)) (ray_at (ones 6)) Passes
+    GivesInForms 6 (rigid (asphere_setup bent)) (level_ray (ones 6)) Passes
     (headed (place (span (pos 35999914) (pos 36000086)) (about 7) (span (pos 5999993) (pos 6000007)) (span (pos 2012944) (pos 2012976)) (span (pos 2012936) (pos 2012984))) (about 1) (about 1) (span (pos 999998) (pos 1000002))
     ∷ place (span (pos 35999698) (pos 36000302)) (about 25) (span (pos 5999975) (pos 6000025)) (about 1) (span (pos 9999940) (pos 10000060))
     ∷ [])
 
 abbrev pub OutsideInForms : Type 0
-OutsideInForms = GivesInForms 6 (rigid sphere_setup) (ray_at (ones 11)) (Outside 1) []
+OutsideInForms = GivesInForms 6 (rigid sphere_setup) (level_ray (ones 11)) (Outside 1) []
 
 abbrev pub ReflectedInForms : Type 0
-ReflectedInForms = GivesInForms 6 (rigid from_glass_setup) (ray_sloped (tenths 12)) (Tir 1) (place (about 2) (about 3) (about 5) (about 1) (about 9) ∷ [])
+ReflectedInForms = GivesInForms 6 (rigid glass_setup) (ray_sloped (tenths 12)) (Tir 1) (place (about 2) (about 3) (about 5) (about 1) (about 9) ∷ [])
 
 abbrev pub VignettedInForms : Type 0
 VignettedInForms =
-    GivesInForms 6 (rigid rim_setup) (ray_at (tenths 51)) (Vignetted 1) (place (span (pos 26009968) (pos 26010032)) (about 3) (span (pos 5099997) (pos 5100003)) (about 1) (about 4) ∷ [])
+    GivesInForms 6 (rigid rim_setup) (level_ray (tenths 51)) (Vignetted 1) (place (span (pos 26009968) (pos 26010032)) (about 3) (span (pos 5099997) (pos 5100003)) (about 1) (about 4) ∷ [])
 
 abbrev pub TieInForms : Type 0
 TieInForms =
-    row_in_forms (rigid rim_setup) (ray_at (ones 5))
+    row_in_forms (rigid rim_setup) (level_ray (ones 5))
     ≡ outcome 15 (Undecided 1 (span (pos 24999999999989978) (pos 25000000000010022)) (span (pos 25000000000000000) (pos 25000000000000000)))
     (headed (place (span (pos 24999999999989978) (pos 25000000000010022)) (about 1002) (span (pos 4999999999998998) (pos 5000000000001002)) (about 500) (about 2501)) (about 1000) (about 1000) (span (pos 999999999999499) (pos 1000000000000501))
     ∷ place (span (pos 24999999999939918) (pos 25000000000060082)) (about 6008) (span (pos 4999999999993992) (pos 5000000000006008)) (about 500) (span (pos 3999999999992494) (pos 4000000000007506))

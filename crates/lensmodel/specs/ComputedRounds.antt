@@ -7,7 +7,8 @@ use Rattle.fixdec.specs.declared.step.Step.{Step}
 use Rattle.fixdec.specs.declared.step.Step.TheVariants.{Val}
 use Rattle.lensmodel.specs.ComputedAspheres.{asphere_setup, bent}
 use Rattle.lensmodel.specs.ComputedFolds.{folded_setup, skew_ray, decimal}
-use Rattle.lensmodel.specs.ComputedRows.{Gives, place, headed, about, ones, tenths, ray_at}
+use Rattle.lensmodel.specs.ComputedRows.{Gives, place, headed, about, ones, tenths}
+use Rattle.lensmodel.specs.Worked.{level_ray}
 use Rattle.lensmodel.specs.CrossingRows.{foot_rows}
 use Rattle.lensmodel.specs.Preparation.{preparation_rows}
 use Rattle.lensmodel.specs.SlopeRounds.{window_row, pruned, hulls, zone2_of, round_rows}
@@ -36,7 +37,7 @@ first_parts s ray = do
 -- of the bent asphere and the ray at the height 6
 abbrev pub BentParts : Type 0
 BentParts =
-    first_parts (asphere_setup bent) (ray_at (ones 6))
+    first_parts (asphere_setup bent) (level_ray (ones 6))
     ≡ Val (span (negsuc 7844001) (pos 7844002) ∷ span (pos 1961000) (pos 2206125) ∷ span (pos 2010791) (pos 2014621) ∷ span (pos 2012947) (pos 2012973) ∷ [])
 
 -- of the asphere with eight coefficients and the skew ray

@@ -1,13 +1,13 @@
 -- Rows of worked setups in interval arithmetic: their words and places, number for number.
-use Rattle.std.specs.Prelude.{◌≡◌, ℕ, ℤ, pos, negsuc, neg_ℤ, true, [], ◌∷◌, List, Some, None}
+use Rattle.std.specs.Prelude.{◌≡◌, ℕ, ℤ, pos, negsuc, neg_ℤ, [], ◌∷◌, List, Some, None}
 use Rattle.fixdec.specs.Decimal.{Decimal}
 use Rattle.fixdec.specs.Ends.{Ends}
 use Rattle.fixdec.specs.IntervalOperations.{operations}
 use Rattle.lensmodel.specs.Outcome.{Outcome, outcome_at, row_of}
 use Rattle.lensmodel.specs.Values.{zero_decimal, plane}
-use Rattle.lensmodel.specs.Worked.{flat_name, flat_glass, far_object, setup_of, plane_setup, slanted_ray, sphere_setup, axis_ray}
-use Rattle.lensmodel.specs.WorkedRow.{span, slanted_vertex, slanted_image}
-use Rattle.lensmodel.specs.declared.glass.Medium.TheVariants.{Air, Of}
+use Rattle.lensmodel.specs.Worked.{far_object, setup_of, plane_setup, slanted_ray, sphere_setup, axis_ray, glass_setup, rim_setup, level_ray, mirror_setup}
+use Rattle.lensmodel.specs.WorkedRow.{span, slanted_vertex, slanted_image, axis_vertex, axis_image}
+use Rattle.lensmodel.specs.declared.glass.Medium.TheVariants.{Air}
 use Rattle.lensmodel.specs.declared.launch.Launch.{Launch}
 use Rattle.lensmodel.specs.declared.launch.Launch.TheVariants.{Plain, Pupil}
 use Rattle.lensmodel.specs.declared.row.Place.{Place}
@@ -48,10 +48,7 @@ ones n = record { mant = pos n; exp = pos 0 }
 abbrev pub tenths : ℕ → Decimal
 tenths n = record { mant = pos n; exp = negsuc 0 }
 
--- along the axis at a height in y; and from the vertex with a slope in y
-abbrev pub ray_at : Decimal → Launch
-ray_at y = Plain zero_decimal y zero_decimal zero_decimal
-
+-- from the vertex with a slope in y
 abbrev pub ray_sloped : Decimal → Launch
 ray_sloped q = Plain zero_decimal zero_decimal zero_decimal q
 
@@ -63,23 +60,6 @@ air_sphere_setup = setup_of (far_object ∷ record plane { curv = tenths 1; thic
 abbrev pub plane_before : Decimal → Setup
 plane_before d = setup_of (far_object ∷ record plane { thick = Some d } ∷ plane ∷ []) (Air ∷ Air ∷ [])
 
--- a plane out of glass FLAT, and the image 4 behind it
-abbrev pub from_glass_setup : Setup
-from_glass_setup = setup_of (record far_object { glass = Some flat_name } ∷ record plane { thick = Some (ones 4) } ∷ plane ∷ []) (Of flat_glass ∷ Air ∷ [])
-
--- a plane in air with a rim of 5, and the image 4 behind it
-abbrev pub rim_setup : Setup
-rim_setup = setup_of (far_object ∷ record plane { thick = Some (ones 4); semi = Some (ones 5); rim = true } ∷ plane ∷ []) (Air ∷ Air ∷ [])
-
--- a parabolic mirror of curvature -1/10, and the image at its focus
-abbrev pub mirror_setup : Setup
-mirror_setup =
-    setup_of
-    (far_object
-    ∷ record plane { curv = record { mant = negsuc 0; exp = negsuc 0 }; conic = record { mant = negsuc 0; exp = pos 0 }; thick = Some record { mant = negsuc 4; exp = pos 0 }; mirror = true }
-    ∷ plane ∷ [])
-    (Air ∷ Air ∷ [])
-
 -- a setup with another bound on widths: ten to the power -k
 abbrev pub bounded_by : ℤ → Setup → Setup
 bounded_by k s = record s { width = record { mant = pos 1; exp = k } }
@@ -90,22 +70,18 @@ SlantedPlane = Gives 6 plane_setup slanted_ray Passes (slanted_vertex ∷ slante
 
 abbrev pub SphereHeight : Type 0
 SphereHeight =
-    Gives 6 air_sphere_setup (ray_at (ones 6)) Passes
+    Gives 6 air_sphere_setup (level_ray (ones 6)) Passes
     (headed (place (span (pos 35999916) (pos 36000086)) (about 7) (span (pos 5999993) (pos 6000007)) (span (pos 1999991) (pos 2000012)) (span (pos 1999987) (pos 2000017))) (about 1) (about 1) (span (pos 999999) (pos 1000001))
     ∷ place (span (pos 35999688) (pos 36000314)) (about 26) (span (pos 5999974) (pos 6000026)) (about 1) (span (pos 9999964) (pos 10000038))
     ∷ [])
 
 abbrev pub GlassAxis : Type 0
-GlassAxis =
-    Gives 6 sphere_setup axis_ray Passes
-    (headed (place (span (pos 0) (pos 2)) (about 3) (about 3) (span (negsuc 0) (pos 2)) (span (negsuc 3) (pos 5))) (about 3) (about 3) (span (pos 999989) (pos 1000012))
-    ∷ place (span (pos 0) (pos 2)) (about 46) (about 46) (about 1) (span (pos 14999799) (pos 15000188))
-    ∷ [])
+GlassAxis = Gives 6 sphere_setup axis_ray Passes (axis_vertex ∷ axis_image ∷ [])
 
 -- a ray that a mirror turns: N is below 0 behind it, and x and y at the focus hold 0
 abbrev pub MirrorFocus : Type 0
 MirrorFocus =
-    Gives 6 mirror_setup (ray_at (ones 2)) Passes
+    Gives 6 mirror_setup (level_ray (ones 2)) Passes
     (headed (place (span (pos 3999988) (pos 4000014)) (about 3) (span (pos 1999997) (pos 2000003)) (span (negsuc 200001) (negsuc 199997)) (span (negsuc 200004) (negsuc 199994))) (about 4) (span (negsuc 384628) (negsuc 384601)) (span (negsuc 923101) (negsuc 923054))
     ∷ place (span (pos 0) (pos 2)) (about 30) (span (negsuc 127) (pos 135)) (about 1) (span (pos 4999848) (pos 5000134))
     ∷ [])
@@ -113,7 +89,7 @@ MirrorFocus =
 -- ---- rows that end before it
 -- past the edge of the sphere there is no crossing
 abbrev pub PastSphere : Type 0
-PastSphere = Gives 6 sphere_setup (ray_at (ones 11)) (Outside 1) []
+PastSphere = Gives 6 sphere_setup (level_ray (ones 11)) (Outside 1) []
 
 -- a ray that first meets the sphere behind its equator, where w is below 0, isn't one that crosses it
 abbrev pub BehindEquator : Type 0
@@ -122,16 +98,16 @@ BehindEquator =
 
 -- a slope past the critical angle
 abbrev pub TotalReflection : Type 0
-TotalReflection = Gives 6 from_glass_setup (ray_sloped (tenths 12)) (Tir 1) (place (span (pos 0) (pos 2)) (about 3) (about 5) (about 1) (about 8) ∷ [])
+TotalReflection = Gives 6 glass_setup (ray_sloped (tenths 12)) (Tir 1) (place (span (pos 0) (pos 2)) (about 3) (about 5) (about 1) (about 8) ∷ [])
 
 -- a rim of 5: a ray outside it, and one inside
 abbrev pub OutsideRim : Type 0
 OutsideRim =
-    Gives 6 rim_setup (ray_at (tenths 51)) (Vignetted 1) (place (span (pos 26009969) (pos 26010032)) (about 3) (span (pos 5099997) (pos 5100003)) (about 1) (about 4) ∷ [])
+    Gives 6 rim_setup (level_ray (tenths 51)) (Vignetted 1) (place (span (pos 26009969) (pos 26010032)) (about 3) (span (pos 5099997) (pos 5100003)) (about 1) (about 4) ∷ [])
 
 abbrev pub InsideRim : Type 0
 InsideRim =
-    Gives 6 rim_setup (ray_at (tenths 49)) Passes
+    Gives 6 rim_setup (level_ray (tenths 49)) Passes
     (headed (place (span (pos 24009970) (pos 24010031)) (about 3) (span (pos 4899997) (pos 4900003)) (about 1) (about 4)) (about 1) (about 1) (span (pos 999999) (pos 1000001))
     ∷ place (span (pos 24009862) (pos 24010139)) (about 14) (span (pos 4899986) (pos 4900014)) (about 1) (span (pos 3999988) (pos 4000013))
     ∷ [])

@@ -2,10 +2,10 @@
 use Rattle.std.specs.Prelude.{◌≡◌, pos, negsuc, [], ◌∷◌, List}
 use Rattle.fixdec.specs.IntervalOperations.{operations}
 use Rattle.fixdec.specs.declared.step.Why.TheVariants.{Zero, Range}
-use Rattle.lensmodel.specs.ComputedRows.{row_in_intervals, outcome, place, headed, about, bounded_by, ones, tenths, ray_at, ray_sloped, plane_before, rim_setup, from_glass_setup}
+use Rattle.lensmodel.specs.ComputedRows.{row_in_intervals, outcome, place, headed, about, bounded_by, ones, tenths, ray_sloped, plane_before}
+use Rattle.lensmodel.specs.Worked.{level_ray, rim_setup, glass_setup, plane_setup, sphere_setup, slanted_ray, axis_ray}
 use Rattle.lensmodel.specs.Constants.{residual_units}
 use Rattle.lensmodel.specs.Outcome.{outcome_at}
-use Rattle.lensmodel.specs.Worked.{plane_setup, sphere_setup, slanted_ray, axis_ray}
 use Rattle.lensmodel.specs.WorkedRow.{span}
 use Rattle.lensmodel.specs.declared.row.Place.{Place}
 use Rattle.lensmodel.specs.declared.row.Word.TheVariants.{Passes, Vignetted, Undecided, Wide, Lost}
@@ -20,17 +20,17 @@ rim_places =
 -- it is decided at no scale, and its row is that of the greatest: rho and the rim's square overlap there
 abbrev pub RimTie : Type 0
 RimTie =
-    row_in_intervals rim_setup (ray_at (ones 5))
+    row_in_intervals rim_setup (level_ray (ones 5))
     ≡ outcome 15 (Undecided 1 (span (pos 24999999999989980) (pos 25000000000010022)) (span (pos 25000000000000000) (pos 25000000000000000))) rim_places
 
 -- where the bound on widths is less than its widths, the same ray is wide and not undecided
 abbrev pub WideBeforeUndecided : Type 0
-WideBeforeUndecided = row_in_intervals (bounded_by (negsuc 11) rim_setup) (ray_at (ones 5)) ≡ outcome 15 Wide rim_places
+WideBeforeUndecided = row_in_intervals (bounded_by (negsuc 11) rim_setup) (level_ray (ones 5)) ≡ outcome 15 Wide rim_places
 
 -- whatever the bound, a ray outside the rim is vignetted at the first scale
 abbrev pub VignettedBeforeWide : Type 0
 VignettedBeforeWide =
-    row_in_intervals (bounded_by (negsuc 11) rim_setup) (ray_at (tenths 51))
+    row_in_intervals (bounded_by (negsuc 11) rim_setup) (level_ray (tenths 51))
     ≡ outcome 6 (Vignetted 1) (place (span (pos 26009969) (pos 26010032)) (about 3) (span (pos 5099997) (pos 5100003)) (about 1) (about 4) ∷ [])
 
 -- the slanted ray under the bound 10^-4: wide at scale 6, and so its row is at scale 9
@@ -48,7 +48,7 @@ FinerPasses =
 -- a ray that touches the sphere at its edge is lost at every scale, and its row is that of the greatest
 abbrev pub SphereEdge : Type 0
 SphereEdge =
-    row_in_intervals sphere_setup (ray_at (record { mant = pos 1; exp = pos 1 }))
+    row_in_intervals sphere_setup (level_ray (record { mant = pos 1; exp = pos 1 }))
     ≡ outcome 15 (Lost 1 Zero)
     (place (span (pos 99999999999779760) (pos 100000000000220242)) (about 11012) (span (pos 9999999999988988) (pos 10000000000011012)) (span (pos 9999984814490617) (pos 10000000000013024)) (span (pos 9999984814483617) (pos 10000000000020035))
     ∷ [])
@@ -56,7 +56,7 @@ SphereEdge =
 -- a ray at the critical angle is lost where the next surface divides by N
 abbrev pub GrazingRay : Type 0
 GrazingRay =
-    row_in_intervals from_glass_setup (ray_sloped (record { mant = pos 894427190999916; exp = negsuc 14 }))
+    row_in_intervals glass_setup (ray_sloped (record { mant = pos 894427190999916; exp = negsuc 14 }))
     ≡ outcome 15 (Lost 2 Zero)
     (headed (place (span (pos 0) (pos 2)) (about 1002) (about 2343) (about 500) (about 4020)) (about 2503) (span (pos 999999999995772) (pos 1000000000004231)) (span (negsuc 5244) (pos 2704261151))
     ∷ [])
@@ -86,7 +86,7 @@ FarthestImage =
 -- with the residual 10^-14 a ray 10^-10 inside the rim passes at scale 12
 abbrev pub FinestResidual : Type 0
 FinestResidual =
-    row_in_intervals (record rim_setup { res = 14 }) (ray_at (record { mant = pos 49999999999; exp = negsuc 9 }))
+    row_in_intervals (record rim_setup { res = 14 }) (level_ray (record { mant = pos 49999999999; exp = negsuc 9 }))
     ≡ outcome 12 Passes
     (headed (place (span (pos 24999999998970) (pos 24999999999032)) (about 3) (span (pos 4999999999897) (pos 4999999999903)) (about 1) (about 4)) (about 1) (about 1) (span (pos 999999999999) (pos 1000000000001))
     ∷ place (span (pos 24999999998860) (pos 24999999999142)) (about 14) (span (pos 4999999999886) (pos 4999999999914)) (about 1) (span (pos 3999999999988) (pos 4000000000013))

@@ -10,7 +10,8 @@ use Rattle.fixdec.specs.declared.step.Step.TheVariants.{Val, Lost}
 use Rattle.fixdec.specs.declared.step.Why.TheVariants.{Root, Zero}
 use Rattle.lensmodel.specs.FirstOrderRows.{first_attempt, first_order}
 use Rattle.lensmodel.specs.SeidelRows.{sums_attempt, seidel_sums}
-use Rattle.lensmodel.specs.SmallLenses.{whole_dec, tenths, interval, plane_lens, sphere_lens, mirror_lens}
+use Rattle.lensmodel.specs.SmallLenses.{whole_dec, tenths, interval}
+use Rattle.lensmodel.specs.Worked.{plane_setup, sphere_setup, mirror_setup}
 use Rattle.lensmodel.specs.Values.{zero_decimal}
 
 -- the square of an index of 1.5, widened by the residual, and its root
@@ -29,7 +30,7 @@ rooted = record (operations 15) { root = root_of }
 
 -- a plane in air bends no ray: the values are lost where they divide by its power, and the pupil is at the stop
 abbrev pub PlaneInAir : Type 0
-PlaneInAir = first_order plane_lens (whole_dec (pos 1)) zero_decimal ≡ record {
+PlaneInAir = first_order plane_setup (whole_dec (pos 1)) zero_decimal ≡ record {
   scale = 15;
   efl = Lost Zero;
   bfl = Lost Zero;
@@ -47,7 +48,7 @@ PlaneInAir = first_order plane_lens (whole_dec (pos 1)) zero_decimal ≡ record 
 -- a sphere of radius 10 with an index of 1.5 behind it has the focal lengths 30 and 20
 pub record GlassSphere : Type 0 where
   pub root : iv_root 15 index_square ≡ Val index
-  pub out : (first_attempt rooted 15 sphere_lens (pos 1000) (whole_dec (pos 1)) zero_decimal).out ≡ record {
+  pub out : (first_attempt rooted 15 sphere_setup (pos 1000) (whole_dec (pos 1)) zero_decimal).out ≡ record {
     scale = 15;
     efl = Val (interval (pos 29999999999342100) (pos 30000000000657601));
     bfl = Val (interval (pos 29999999999342100) (pos 30000000000657601));
@@ -64,7 +65,7 @@ pub record GlassSphere : Type 0 where
 
 -- a mirror of radius 10 has the focal length 5, in front of it
 abbrev pub MirrorFocus : Type 0
-MirrorFocus = first_order mirror_lens (whole_dec (pos 1)) zero_decimal ≡ record {
+MirrorFocus = first_order mirror_setup (whole_dec (pos 1)) zero_decimal ≡ record {
   scale = 15;
   efl = Val (interval (negsuc 5000000000030000) (negsuc 4999999999969999));
   bfl = Val (interval (negsuc 5000000000030000) (negsuc 4999999999969999));
@@ -82,7 +83,7 @@ MirrorFocus = first_order mirror_lens (whole_dec (pos 1)) zero_decimal ≡ recor
 -- S1 holds 1/4500, and S4 holds 1/3000
 pub record SphereSums : Type 0 where
   pub root : iv_root 15 index_square ≡ Val index
-  pub out : (sums_attempt rooted 15 sphere_lens (pos 1000) (whole_dec (pos 1)) zero_decimal zero_decimal (tenths (pos 1))).out ≡ record {
+  pub out : (sums_attempt rooted 15 sphere_setup (pos 1000) (whole_dec (pos 1)) zero_decimal zero_decimal (tenths (pos 1))).out ≡ record {
     scale = 15;
     per = record { items = (record { s1 = Val (interval (pos 222222221217) (pos 222222223227)); s2 = Val (interval (pos 222222221217) (pos 222222223227)); s3 = Val (interval (pos 222222221217) (pos 222222223227)); s4 = Val (interval (pos 333333332333) (pos 333333334334)); s5 = Val (interval (pos 555555554555) (pos 555555556556)) }) ∷ [] };
     whole = record { s1 = Val (interval (pos 222222221217) (pos 222222223227)); s2 = Val (interval (pos 222222221217) (pos 222222223227)); s3 = Val (interval (pos 222222221217) (pos 222222223227)); s4 = Val (interval (pos 333333332333) (pos 333333334334)); s5 = Val (interval (pos 555555554555) (pos 555555556556)) };
@@ -90,7 +91,7 @@ pub record SphereSums : Type 0 where
 
 -- a paraboloid has no spherical aberration
 abbrev pub ParaboloidSums : Type 0
-ParaboloidSums = seidel_sums mirror_lens (whole_dec (pos 1)) zero_decimal zero_decimal (tenths (pos 1)) ≡ record {
+ParaboloidSums = seidel_sums mirror_setup (whole_dec (pos 1)) zero_decimal zero_decimal (tenths (pos 1)) ≡ record {
   scale = 15;
   per = record { items = (record { s1 = Val (interval (negsuc 1009) (pos 1010)); s2 = Val (interval (negsuc 2000000001009) (negsuc 1999999998989)); s3 = Val (interval (pos 1999999998990) (pos 2000000001010)); s4 = Val (interval (negsuc 2000000000999) (negsuc 1999999998999)); s5 = Val (interval (negsuc 999) (pos 1000)) }) ∷ [] };
   whole = record { s1 = Val (interval (negsuc 1009) (pos 1010)); s2 = Val (interval (negsuc 2000000001009) (negsuc 1999999998989)); s3 = Val (interval (pos 1999999998990) (pos 2000000001010)); s4 = Val (interval (negsuc 2000000000999) (negsuc 1999999998999)); s5 = Val (interval (negsuc 999) (pos 1000)) };

@@ -3,7 +3,8 @@ use Rattle.std.specs.Prelude.{◌≡◌, ℕ, pos, negsuc, true, false, List, []
 use Rattle.fixdec.specs.Decimal.{Decimal}
 use Rattle.fixdec.specs.Zone.{norm}
 use Rattle.lensmodel.specs.Media.{equal_media}
-use Rattle.lensmodel.specs.SmallLenses.{dec, whole_dec, interval, object, mirror, asphere, plane_lens, folded_lens, toleranced}
+use Rattle.lensmodel.specs.SmallLenses.{dec, whole_dec, interval, mirror, asphere, folded_lens, toleranced}
+use Rattle.lensmodel.specs.Worked.{far_object, plane_setup}
 use Rattle.lensmodel.specs.Values.{plane, zero_decimal, owner, travel}
 use Rattle.lensmodel.specs.WholeFaults.{whole_fault}
 use Rattle.lensmodel.specs.Zones.{surface_zone, surface_norm, scaled_coefficient}
@@ -41,13 +42,13 @@ abbrev pub lens_of : List Surface → ℕ → Prescription
 lens_of surfaces stop = record { surfaces = record { items = surfaces }; stop = stop; waves = record { items = [] }; primary = 1 }
 
 abbrev pub with_asphere : Decimal → Decimal → Prescription
-with_asphere semi a8 = lens_of (object ∷ asphere semi a8 ∷ plane ∷ []) 1
+with_asphere semi a8 = lens_of (far_object ∷ asphere semi a8 ∷ plane ∷ []) 1
 
 -- each fault before those behind it: the object may be infinitely far, and so may what follows the image
 abbrev pub Faults : Type 0
 Faults =
-    map whole_fault (plane_lens.lens ∷ lens_of (mirror ∷ plane ∷ []) 2 ∷ lens_of (mirror ∷ object ∷ plane ∷ []) 3 ∷ lens_of (mirror ∷ object ∷ plane ∷ []) 0
-    ∷ lens_of (object ∷ plane ∷ object ∷ object ∷ []) 1 ∷ with_asphere zero_decimal zero_decimal ∷ lens_of (asphere zero_decimal zero_decimal ∷ plane ∷ object ∷ []) 2 ∷ [])
+    map whole_fault (plane_setup.lens ∷ lens_of (mirror ∷ plane ∷ []) 2 ∷ lens_of (mirror ∷ far_object ∷ plane ∷ []) 3 ∷ lens_of (mirror ∷ far_object ∷ plane ∷ []) 0
+    ∷ lens_of (far_object ∷ plane ∷ far_object ∷ far_object ∷ []) 1 ∷ with_asphere zero_decimal zero_decimal ∷ lens_of (asphere zero_decimal zero_decimal ∷ plane ∷ far_object ∷ []) 2 ∷ [])
     ≡ None ∷ Some TooFewSurfaces ∷ Some StopCount ∷ Some MirrorAtObject ∷ Some (InnerInfinity 2) ∷ Some (NoZone 1) ∷ None ∷ []
 
 -- a coefficient of exactly 10^9 is accepted, and one of -1.01 times that isn't
@@ -67,5 +68,5 @@ FoldedLens =
 -- a tolerance on the index of either medium makes them different, and one on another surface doesn't
 abbrev pub EqualMedia : Type 0
 EqualMedia =
-    map (λ s. equal_media s 0) (plane_lens ∷ toleranced 0 zero_decimal ∷ toleranced 1 zero_decimal ∷ toleranced 2 zero_decimal ∷ [])
+    map (λ s. equal_media s 0) (plane_setup ∷ toleranced 0 zero_decimal ∷ toleranced 1 zero_decimal ∷ toleranced 2 zero_decimal ∷ [])
     ≡ true ∷ false ∷ false ∷ true ∷ []

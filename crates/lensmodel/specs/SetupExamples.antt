@@ -7,14 +7,15 @@ use Rattle.lensmodel.specs.Constants.{residual_units}
 use Rattle.lensmodel.specs.Picking.{is_good_index}
 use Rattle.lensmodel.specs.Preparation.{index_row}
 use Rattle.lensmodel.specs.Ranges.{is_width, is_residual, is_fan, is_grid, has_place}
-use Rattle.lensmodel.specs.SmallLenses.{dec, whole_dec, tenths, mirror_lens, toleranced}
+use Rattle.lensmodel.specs.SmallLenses.{dec, whole_dec, tenths, toleranced}
+use Rattle.lensmodel.specs.Worked.{mirror_setup}
 use Rattle.lensmodel.specs.Values.{zero_decimal}
 use Rattle.lensmodel.specs.WellFormed.{IsWellFormed}
 use Rattle.lensmodel.specs.declared.tolerance.TolKind.TheVariants.{Curv, Thic, Indx}
 
 -- a mirror alone
 abbrev pub MirrorIsWellFormed : Type 0
-MirrorIsWellFormed = IsWellFormed mirror_lens
+MirrorIsWellFormed = IsWellFormed mirror_setup
 
 -- air has an index of 1, below which there is no room for a tolerance
 abbrev pub AirIndices : Type 0

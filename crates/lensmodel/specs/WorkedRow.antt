@@ -1,4 +1,4 @@
--- The printed row of a worked ray.
+-- The printed rows of worked rays.
 use Rattle.std.specs.Prelude.{ℤ, pos, negsuc, [], ◌∷◌, Some, None}
 use Rattle.fixdec.specs.Ends.{Ends}
 use Rattle.lensmodel.specs.declared.row.Heading.{Heading}
@@ -39,3 +39,29 @@ slanted_image = record {
 -- the printed row of the slanted ray
 abbrev pub slanted_row : Row
 slanted_row = record { scale = 6; word = Passes; places = record { items = slanted_vertex ∷ slanted_image ∷ [] } }
+
+-- the printed heading of the ray along the axis of a sphere into glass, behind the sphere, in millionths
+abbrev pub axis_heading : Heading
+axis_heading = record { l = span (negsuc 2) (pos 3); m = span (negsuc 2) (pos 3); n = span (pos 999989) (pos 1000012) }
+
+-- its printed place at the sphere
+abbrev pub axis_vertex : Place
+axis_vertex = record {
+  rho = span (pos 0) (pos 2);
+  x = span (negsuc 2) (pos 3);
+  y = span (negsuc 2) (pos 3);
+  z = span (negsuc 0) (pos 2);
+  path = span (negsuc 3) (pos 5);
+  heading = Some axis_heading;
+}
+
+-- its printed place at the image
+abbrev pub axis_image : Place
+axis_image = record {
+  rho = span (pos 0) (pos 2);
+  x = span (negsuc 45) (pos 46);
+  y = span (negsuc 45) (pos 46);
+  z = span (negsuc 0) (pos 1);
+  path = span (pos 14999799) (pos 15000188);
+  heading = None;
+}

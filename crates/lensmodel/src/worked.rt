@@ -11,7 +11,7 @@ ghost use Rattle.lensmodel.specs.Residual.{IsWithin};
 ghost use Rattle.lensmodel.specs.Values.{surface_at, owner, travel, eps};
 ghost use Rattle.lensmodel.specs.Worked.{whole_decimal, plane_setup, slanted_ray, sphere_setup, axis_ray, glass_setup, steep_ray, rim_setup, level_ray, high_height, low_height, mirror_setup, bowl_setup, bowl_ray};
 ghost use Rattle.lensmodel.specs.WorkedChains.{slanted_chain, slanted_to, axis_chain, height_chain, steep_chain, level_chain, mirror_chain, bowl_near, bowl_far};
-ghost use Rattle.lensmodel.specs.WorkedRow.{slanted_vertex, slanted_heading, slanted_image};
+ghost use Rattle.lensmodel.specs.WorkedRow.{slanted_vertex, slanted_heading, slanted_image, axis_vertex, axis_heading, axis_image};
 
 use crate::glass::Medium;
 use crate::launch::Launch;
@@ -53,13 +53,16 @@ pub fn slanted_plane() -> Worked
 }
 
 /// A sphere of curvature 1/10 into glass of index 3/2, the image 10 behind it, and the ray along
-/// its axis: the optical path at the image is 15.
+/// its axis: the optical path at the image is 15. The chain lies in the intervals that are printed.
 pub fn glass_axis() -> Worked
     ensures setup { result.setup ≡ sphere_setup }
     ensures ray { result.ray ≡ axis_ray }
     ensures media { IsFalse (equal_media result.setup 0) }
     ensures chain { (symbols : Symbols) → IsWhole result.setup result.ray (axis_chain symbols) }
     ensures path { (symbols : Symbols) → (axis_chain symbols).path 2 ≈ whole (pos 15) }
+    ensures vertex { (symbols : Symbols) → HoldsPlace 6 axis_vertex (axis_chain symbols) 1 }
+    ensures heading { (symbols : Symbols) → HoldsHeading 6 axis_heading (axis_chain symbols) 1 }
+    ensures image { (symbols : Symbols) → HoldsPlace 6 axis_image (axis_chain symbols) 2 }
 {
     let zero = Dec { mant: 0, exp: 0 };
     Worked {
