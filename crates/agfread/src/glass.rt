@@ -4,7 +4,7 @@ ghost use Rattle.std.specs.Prelude.{◌≡◌, ◌≤◌, ◌<◌, [], Some, Non
 ghost use Rattle.lensmodel.specs.Catalogue.{glass_of, NM_fault, CD_fault, LD_fault};
 ghost use Rattle.lensmodel.specs.TextLines.{words};
 ghost use Rattle.lensmodel.specs.Values.{zero_decimal};
-ghost use Rattle.agfread.specs.Records.{with_coefficients, with_bounds};
+ghost use Rattle.agfread.specs.Records.{used_CD_fault, with_CD, with_coefficients, with_bounds};
 
 use crate::number::{formula, number};
 use crate::record::Record;
@@ -68,7 +68,7 @@ fn bare(name: &[u16], formula: u32) -> Glass
 }
 
 /// Puts the coefficients of a CD line into a glass.
-pub fn set_coefficients(glass: &mut Glass, line: &Record<'_>, at: u32) -> Result<(), AgfFault>
+fn set_coefficients(glass: &mut Glass, line: &Record<'_>, at: u32) -> Result<(), AgfFault>
     ensures glass { OnOk result (glass.new ≡ with_coefficients (words line.now.units.now) glass.old) }
     ensures sound { OnOk result (CD_fault at (words line.now.units.now) ≡ None) }
     ensures fault { IfErr result (λ f. CD_fault at (words line.now.units.now) ≡ Some f) }
@@ -86,6 +86,18 @@ pub fn set_coefficients(glass: &mut Glass, line: &Record<'_>, at: u32) -> Result
     glass.c4 = c4;
     glass.c5 = c5;
     Ok(())
+}
+
+/// Puts the coefficients of a CD line into a glass, where its formula uses them.
+pub fn set_used_coefficients(glass: &mut Glass, line: &Record<'_>, at: u32) -> Result<(), AgfFault>
+    ensures glass { OnOk result (glass.new ≡ with_CD (words line.now.units.now) glass.old) }
+    ensures sound { OnOk result (used_CD_fault at glass.old (words line.now.units.now) ≡ None) }
+    ensures fault { IfErr result (λ f. used_CD_fault at glass.old (words line.now.units.now) ≡ Some f) }
+{
+    match glass.formula {
+        1 | 2 => set_coefficients(glass, line, at),
+        _ => Ok(()),
+    }
 }
 
 /// Puts the bounds of an LD line into a glass.

@@ -79,7 +79,7 @@ impl<'a> Record<'a> {
         &self.units[start..end]
     }
 
-    /// Whether the line has fewer words behind its first than are wanted, at most 63.
+    /// Whether fewer words than `wanted`, which is at most 63, stand behind the line's first.
     pub fn lacks(&self, wanted: usize) -> bool
         requires { wanted < 64 }
         ensures { IsTrue result ↔ length (words self.now.units.now) - 1 < wanted }

@@ -3,30 +3,17 @@
 ghost use Rattle.std.specs.Prelude.{◌≡◌, ◌≢◌, ◌++◌, ◌∷◌, ◌+◌, ◌<◌, length, [], List, None, Some, IfOk, IfErr, OnOk};
 ghost use Rattle.lensmodel.specs.Catalogue.{offence, glass_of, NM_fault};
 ghost use Rattle.lensmodel.specs.Records.{Words};
-ghost use Rattle.agfread.specs.Records.{used_CD_fault, with_CD};
 ghost use Rattle.lensmodel.specs.TextLines.{words};
 ghost use Rattle.agfread.specs.Walked.{closed_with};
 ghost use Rattle.agfread.specs.Readers.{IsAt};
 
-use crate::glass::{begun, set_bounds, set_coefficients};
+use crate::glass::{begun, set_bounds, set_used_coefficients};
 use crate::record::{Record, Tag};
 use crate::table::record_table;
 use glassbook::book::GlassBook;
 use lensmodel::fault::AgfFault;
 use lensmodel::glass::Glass;
 use std::alloc::Global;
-
-/// Gives a glass the coefficients of a CD line, where its formula uses them.
-fn coefficients(glass: &mut Glass, line: &Record<'_>, at: u32) -> Result<(), AgfFault>
-    ensures sound { OnOk result (used_CD_fault at glass.old (words line.now.units.now) ≡ None) }
-    ensures glass { OnOk result (glass.new ≡ with_CD (words line.now.units.now) glass.old) }
-    ensures fault { IfErr result (λ f. used_CD_fault at glass.old (words line.now.units.now) ≡ Some f) }
-{
-    match glass.formula {
-        1 | 2 => set_coefficients(glass, line, at),
-        _ => Ok(()),
-    }
-}
 
 /// How far a catalogue was read.
 #[derive(Drop)]
@@ -61,7 +48,7 @@ impl Reader {
         record_table!(line, AgfFault::MissingWord { line: at } => {
             Tag::Nm, 2 words => self.begin(at, line),
             Tag::Cd, let Some(glass) = &mut self.current, else AgfFault::OrphanRecord { line: at },
-                0 words => coefficients(glass, line, at),
+                0 words => set_used_coefficients(glass, line, at),
             Tag::Ld, let Some(glass) = &mut self.current, else AgfFault::OrphanRecord { line: at },
                 2 words => set_bounds(glass, line, at),
         } else Ok(()))

@@ -12,9 +12,9 @@ returns-else-lacks-clause-passed c =
 
 pub returns-else-lacks-2-clause-passed : goal.returns-else-lacks-2-clause-passed
 returns-else-lacks-2-clause-passed c =
-    let e = c.coefficients.ensures in
-    on_ok2 c.coefficients.result
-    (λ f g before at. CD-step c.args.at before (words c.args.line.now.units.now) c.args.self.now c.in-Some.glass c.coefficients.new.glass (sym c.tag.ensures ∙ c.in-Cd.is) c.in-Some.is at f g)
+    let e = c.set_used_coefficients.ensures in
+    on_ok2 c.set_used_coefficients.result
+    (λ f g before at. CD-step c.args.at before (words c.args.line.now.units.now) c.args.self.now c.in-Some.glass c.set_used_coefficients.new.glass (sym c.tag.ensures ∙ c.in-Cd.is) c.in-Some.is at f g)
     e.sound e.glass
 
 pub returns-else-lacks-3-clause-passed : goal.returns-else-lacks-3-clause-passed
