@@ -1,7 +1,7 @@
 -- Words of a line by number.
-use Rattle.std.proofs.Common.{◌≡◌, ℕ, zero, suc, ◌<◌, ◌≤◌, true, false, List, [], ◌∷◌, length, take, map, refl, arith, true≢false}
-use Rattle.std.specs.Prelude.{nat_lt, slice_index_or, not}
-use Rattle.std.proofs.lemmas.Bool.{le-ltb}
+use Rattle.std.proofs.Common.{◌≡◌, ℕ, zero, suc, ◌<◌, ◌≤◌, true, false, List, [], ◌∷◌, length, take, map, refl, sym, ap, ◌∙◌, min, arith, true≢false}
+use Rattle.std.specs.Prelude.{slice_index_or}
+use Rattle.std.proofs.lemmas.List.{length-map, length-take}
 use Rattle.lensmodel.specs.Records.{Words, word_at}
 use Rattle.agfread.specs.Records.{has_word}
 
@@ -37,8 +37,6 @@ word_at-map f k [] d h = absurd (omega arith)
 word_at-map f zero (r ∷ rs) d h = refl
 word_at-map f (suc k) (r ∷ rs) d h = word_at-map f k rs d (omega arith)
 
-pub short_line : (ws : Words) → nat_lt (length ws) 3 ≡ not (has_word 2 ws)
-short_line [] = refl
-short_line (a ∷ []) = refl
-short_line (a ∷ b ∷ []) = refl
-short_line (a ∷ b ∷ c ∷ ws) = le-ltb (suc (suc (suc (length ws)))) 3 (omega arith)
+-- how many words are cut out of a line
+pub cut_count : {A : Type 0} (f : A → List ℕ) (rs : List A) (n : ℕ) (ws : Words) → map f rs ≡ take n ws → length rs ≡ min n (length ws)
+cut_count f rs n ws e = sym (length-map rs f) ∙ ap length e ∙ length-take n ws

@@ -4,7 +4,7 @@ use Rattle.std.proofs.Common.{ap, sym, ◌∙◌, inl, inr}
 use Rattle.lensmodel.specs.Catalogue.{is_NM, is_CD, is_LD, block, glass_of, all_glasses, formula_number, is_used, coefficient_in, bound_in}
 use Rattle.lensmodel.specs.Records.{Words, last_where, count_where, or_first, word_at}
 use Rattle.lensmodel.specs.declared.glass.Glass.{Glass}
-use Rattle.agfread.specs.Records.{with_coefficients, with_bounds}
+use Rattle.agfread.specs.Records.{with_coefficients, with_CD, with_bounds}
 
 pub last_where-append : (is : Words → Bool) (ls : List Words) (l : Words)
     → last_where is (ls ++ l ∷ []) ≡ or_first (if is l then Some l else None) (last_where is ls)
@@ -106,7 +106,7 @@ all_glasses-grows (x ∷ ls) l change c =
 
 -- a CD line changes the coefficients of its glass, where they are used
 pub CD-changes : (l : Words) → is_NM l ≡ false → is_CD l ≡ true → is_LD l ≡ false
-    → Changes l (λ g. if is_used g.formula then with_coefficients l g else g)
+    → Changes l (with_CD l)
 CD-changes l n c d = record {
   inner = n;
   glass = λ nm ls.

@@ -1,16 +1,17 @@
 -- One more line: what it says of the catalogue, by what the reader did with it.
-use Rattle.std.proofs.Common.{◌≡◌, ℕ, ◌+◌, Bool, true, false, List, [], ◌∷◌, ◌++◌, refl, sym, ap, subst, ◌∙◌, arith}
+use Rattle.std.proofs.Common.{◌≡◌, ◌≢◌, ℕ, ◌+◌, Bool, true, false, List, [], ◌∷◌, ◌++◌, refl, sym, ap, subst, ◌∙◌, arith}
 use Rattle.std.specs.Prelude.{Option, Some, None, Result, Ok, Err, OnOk, nat_eq, codes, if◌then◌else◌}
 use lib.Pointwise.{pointwise}
-use Rattle.lensmodel.specs.Catalogue.{is_NM, is_CD, is_LD, glass_of, is_used, offence, NM_offence, CD_offence, LD_offence, NM_fault}
+use Rattle.lensmodel.specs.Catalogue.{is_NM, is_CD, is_LD, glass_of, is_used, offence, NM_offence, CD_offence, LD_offence, NM_fault, LD_fault}
 use Rattle.lensmodel.specs.Records.{Words, last_where, count_where}
 use Rattle.lensmodel.specs.declared.glass.Glass.{Glass}
-use Rattle.agfread.specs.Records.{with_coefficients, with_bounds, open_CD_fault, open_LD_fault, after_CD, after_LD}
+use Rattle.agfread.specs.Records.{with_coefficients, with_bounds, used_CD_fault, with_CD}
 use Rattle.agfread.proofs.Growth.{last_where-append, count_where-append, all_glasses-begins, all_glasses-grows, on_last, on_last-append, Changes, CD-changes, LD-changes, others-change}
 use Rattle.agfread.proofs.Books.{same-yes, book-append}
 use Rattle.agfread.specs.Walked.{Walked, OpenAt, closed_with, with_glass}
 use Rattle.agfread.specs.Readers.{IsAt}
 use Rattle.agfread.specs.Tags.{tag_of}
+use Rattle.agfread.specs.declared.record.Tag.{Tag}
 use Rattle.agfread.specs.declared.record.Tag.TheVariants.{Nm, Cd, Ld, Other}
 use Rattle.agfread.specs.declared.walk.Reader.{Reader}
 
@@ -48,15 +49,13 @@ NM-offence : (n : ℕ) (before : List Words) (l : Words) (seen : ℕ) → is_NM 
 NM-offence n before l seen h e = ap (λ b. if b then NM_offence n before l else if is_CD l then CD_offence n (last_where is_NM before) l else if is_LD l then LD_offence n (last_where is_NM before) l else None) h
     ∙ sym (ap (λ k. NM_fault n k l) e)
 
-CD-offence : (n : ℕ) (before : List Words) (l : Words) (o : Option Glass) (held : List Glass) → is_NM l ≡ false → is_CD l ≡ true → Walked before o held
-    → offence n before l ≡ open_CD_fault n o l
-CD-offence n before l None held h c w = rw (h, c, w.last) refl
-CD-offence n before l (Some g) held h c w = rw (h, c, w.last, w.formula) refl
+CD-offence : (n : ℕ) (before : List Words) (l : Words) (g : Glass) (held : List Glass) → is_NM l ≡ false → is_CD l ≡ true → OpenAt before g held
+    → offence n before l ≡ used_CD_fault n g l
+CD-offence n before l g held h c w = rw (h, c, w.last, w.formula) refl
 
-LD-offence : (n : ℕ) (before : List Words) (l : Words) (o : Option Glass) (held : List Glass) → is_NM l ≡ false → is_CD l ≡ false → is_LD l ≡ true → Walked before o held
-    → offence n before l ≡ open_LD_fault n o l
-LD-offence n before l None held h c d w = rw (h, c, d, w.last) refl
-LD-offence n before l (Some g) held h c d w = rw (h, c, d, w.last) refl
+LD-offence : (n : ℕ) (before : List Words) (l : Words) (g : Glass) (held : List Glass) → is_NM l ≡ false → is_CD l ≡ false → is_LD l ≡ true → OpenAt before g held
+    → offence n before l ≡ LD_fault n l
+LD-offence n before l g held h c d w = rw (h, c, d, w.last) refl
 
 -- ---- glasses
 abbrev pub changed : (Glass → Glass) → Option Glass → Option Glass
@@ -118,47 +117,49 @@ not-NM-count : (before : List Words) (l : Words) (r next : Reader) → is_NM l �
     → next.seen ≡ count_where is_NM (before ++ l ∷ [])
 not-NM-count before l r next h at s = s ∙ at.seen ∙ sym (count_where-append is_NM before l ∙ rw h refl)
 
-after_CD-is : (l : Words) (o : Option Glass) → after_CD l o ≡ changed (λ g. if is_used g.formula then with_coefficients l g else g) o
-after_CD-is l None = refl
-after_CD-is l (Some g) = refl
-
-after_LD-is : (l : Words) (o : Option Glass) → after_LD l o ≡ changed (with_bounds l) o
-after_LD-is l None = refl
-after_LD-is l (Some g) = refl
-
 unchanged : (o : Option Glass) → o ≡ changed (λ g. g) o
 unchanged None = refl
 unchanged (Some g) = refl
 
-keeps-formula : (l : Words) (g : Glass) → (if is_used g.formula then with_coefficients l g else g).formula ≡ g.formula
+keeps-formula : (l : Words) (g : Glass) → (with_CD l g).formula ≡ g.formula
 keeps-formula l g = elim (is_used g.formula) as (λ b. (if b then with_coefficients l g else g).formula ≡ g.formula) [ true ↦ refl | false ↦ refl ]
 
-pub CD-step : (n : ℕ) (before : List Words) (l : Words) (r next : Reader) → tag_of l ≡ Cd → IsAt before r → open_CD_fault n r.current l ≡ None
-    → next.current ≡ after_CD l r.current → next.book ≡ r.book → next.seen ≡ r.seen
-    → (offence n before l ≡ None) × IsAt (before ++ l ∷ []) next
-CD-step n before l r next t at f o b s =
-    let h = by-CD (is_NM l) (is_CD l) (is_LD l) t in
-    let change = λ (g : Glass). if is_used g.formula then with_coefficients l g else g in (
-      CD-offence n before l r.current r.book h.0 h.1 at.walked ∙ f,
-      record {
-        seen = not-NM-count before l r next h.0 at s;
-        walked = along (before ++ l ∷ []) (changed change r.current) next.current r.book next.book (o ∙ after_CD-is l r.current) b
-            (grown before l change r.current r.book (CD-changes l h.0 h.1 (CD-not-LD l h.1)) (keeps-formula l) at.walked);
-      },
+open-walked : (before : List Words) (r : Reader) (g : Glass) → r.current ≡ Some g → IsAt before r → OpenAt before g r.book
+open-walked before r g e at = subst (λ (o : Option Glass). Walked before o r.book) e at.walked
+
+-- a line that changes the open glass
+changed-step : (before : List Words) (l : Words) (r : Reader) (g next : Glass) (change : Glass → Glass) → Changes l change
+    → ((g : Glass) → (change g).formula ≡ g.formula) → r.current ≡ Some g → IsAt before r → next ≡ change g
+    → IsAt (before ++ l ∷ []) (record { book = r.book; current = Some next; seen = r.seen })
+changed-step before l r g next change ch keeps is at e = record {
+  seen = not-NM-count before l r r ch.inner at refl;
+  walked = subst (λ (x : Glass). OpenAt (before ++ l ∷ []) x r.book) (sym e) (grown before l change (Some g) r.book ch keeps (open-walked before r g is at));
+}
+
+pub CD-step : (n : ℕ) (before : List Words) (l : Words) (r : Reader) (g next : Glass) → tag_of l ≡ Cd → r.current ≡ Some g → IsAt before r
+    → used_CD_fault n g l ≡ None → next ≡ with_CD l g
+    → (offence n before l ≡ None) × IsAt (before ++ l ∷ []) (record { book = r.book; current = Some next; seen = r.seen })
+CD-step n before l r g next t is at f e =
+    let h = by-CD (is_NM l) (is_CD l) (is_LD l) t in (
+      CD-offence n before l g r.book h.0 h.1 (open-walked before r g is at) ∙ f,
+      changed-step before l r g next (with_CD l) (CD-changes l h.0 h.1 (CD-not-LD l h.1)) (keeps-formula l) is at e,
     )
 
-pub LD-step : (n : ℕ) (before : List Words) (l : Words) (r next : Reader) → tag_of l ≡ Ld → IsAt before r → open_LD_fault n r.current l ≡ None
-    → next.current ≡ after_LD l r.current → next.book ≡ r.book → next.seen ≡ r.seen
-    → (offence n before l ≡ None) × IsAt (before ++ l ∷ []) next
-LD-step n before l r next t at f o b s =
+pub LD-step : (n : ℕ) (before : List Words) (l : Words) (r : Reader) (g next : Glass) → tag_of l ≡ Ld → r.current ≡ Some g → IsAt before r
+    → LD_fault n l ≡ None → next ≡ with_bounds l g
+    → (offence n before l ≡ None) × IsAt (before ++ l ∷ []) (record { book = r.book; current = Some next; seen = r.seen })
+LD-step n before l r g next t is at f e =
     let h = by-LD (is_NM l) (is_CD l) (is_LD l) t in (
-      LD-offence n before l r.current r.book h.0 h.1 h.2 at.walked ∙ f,
-      record {
-        seen = not-NM-count before l r next h.0 at s;
-        walked = along (before ++ l ∷ []) (changed (with_bounds l) r.current) next.current r.book next.book (o ∙ after_LD-is l r.current) b
-            (grown before l (with_bounds l) r.current r.book (LD-changes l h.0 h.1 h.2) (λ g. refl) at.walked);
-      },
+      LD-offence n before l g r.book h.0 h.1 h.2 (open-walked before r g is at) ∙ f,
+      changed-step before l r g next (with_bounds l) (LD-changes l h.0 h.1 h.2) (λ x. refl) is at e,
     )
+
+-- the tag that no row of the table has
+pub other_tag : (t : Tag) → t ≢ Nm → t ≢ Cd → t ≢ Ld → t ≡ Other
+other_tag Nm n c d = absurd (n refl)
+other_tag Cd n c d = absurd (c refl)
+other_tag Ld n c d = absurd (d refl)
+other_tag Other n c d = refl
 
 pub other-step : (n : ℕ) (before : List Words) (l : Words) (r : Reader) → tag_of l ≡ Other → IsAt before r
     → (offence n before l ≡ None) × IsAt (before ++ l ∷ []) r
@@ -176,3 +177,7 @@ other-step n before l r t at =
 pub on_ok4 : {T E : Type 0} {A B C D X : Type 0} (r : Result T E) → (A → B → C → D → X) → OnOk r A → OnOk r B → OnOk r C → OnOk r D → OnOk r X
 on_ok4 (Ok u) f a b c d = f a b c d
 on_ok4 (Err e) f a b c d = tt
+
+pub on_ok2 : {T E : Type 0} {A B X : Type 0} (r : Result T E) → (A → B → X) → OnOk r A → OnOk r B → OnOk r X
+on_ok2 (Ok u) f a b = f a b
+on_ok2 (Err e) f a b = tt

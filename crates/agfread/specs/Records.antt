@@ -1,10 +1,10 @@
 -- What one record of a catalogue says, word by word. A line is its list of words.
 use Rattle.std.specs.Prelude.{ℕ, zero, suc, Bool, true, false, [], ◌∷◌, Option, Some, None, if◌then◌else◌}
 use Rattle.fixdec.specs.Reading.{decimal_of}
-use Rattle.lensmodel.specs.Catalogue.{CD_fault, LD_fault, bad_unless, is_used, coefficient_in, bound_in}
+use Rattle.lensmodel.specs.Catalogue.{CD_fault, bad_unless, is_used, coefficient_in, bound_in}
 use Rattle.lensmodel.specs.Records.{Words, word_at}
 use Rattle.lensmodel.specs.declared.fault.AgfFault.{AgfFault}
-use Rattle.lensmodel.specs.declared.fault.AgfFault.TheVariants.{BadNumber, OrphanRecord}
+use Rattle.lensmodel.specs.declared.fault.AgfFault.TheVariants.{BadNumber}
 use Rattle.lensmodel.specs.declared.glass.Glass.{Glass}
 
 -- whether a line has a word of a number, counted from 0
@@ -32,22 +32,10 @@ with_coefficients line g = record g {
 abbrev pub with_bounds : Words → Glass → Glass
 with_bounds line g = record g { low = bound_in (Some line) 1; high = bound_in (Some line) 2 }
 
--- the faults of a CD line, where a glass may be open
-abbrev pub open_CD_fault : ℕ → Option Glass → Words → Option AgfFault
-open_CD_fault n None line = Some (OrphanRecord n)
-open_CD_fault n (Some g) line = if is_used g.formula then CD_fault n line else None
+-- the faults of a CD line of a glass, whose formula may not use it
+abbrev pub used_CD_fault : ℕ → Glass → Words → Option AgfFault
+used_CD_fault n g line = if is_used g.formula then CD_fault n line else None
 
--- the faults of an LD line, where a glass may be open
-abbrev pub open_LD_fault : ℕ → Option Glass → Words → Option AgfFault
-open_LD_fault n None line = Some (OrphanRecord n)
-open_LD_fault n (Some g) line = LD_fault n line
-
--- the open glass after a CD line
-abbrev pub after_CD : Words → Option Glass → Option Glass
-after_CD line None = None
-after_CD line (Some g) = Some (if is_used g.formula then with_coefficients line g else g)
-
--- the open glass after an LD line
-abbrev pub after_LD : Words → Option Glass → Option Glass
-after_LD line None = None
-after_LD line (Some g) = Some (with_bounds line g)
+-- a glass after a CD line
+abbrev pub with_CD : Words → Glass → Glass
+with_CD line g = if is_used g.formula then with_coefficients line g else g

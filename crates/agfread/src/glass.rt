@@ -4,7 +4,7 @@ ghost use Rattle.std.specs.Prelude.{◌≡◌, ◌≤◌, ◌<◌, [], Some, Non
 ghost use Rattle.lensmodel.specs.Catalogue.{glass_of, NM_fault, CD_fault, LD_fault};
 ghost use Rattle.lensmodel.specs.TextLines.{words};
 ghost use Rattle.lensmodel.specs.Values.{zero_decimal};
-ghost use Rattle.agfread.specs.Records.{with_coefficients, with_bounds};
+ghost use Rattle.agfread.specs.Records.{used_CD_fault, with_CD, with_coefficients, with_bounds};
 
 use crate::number::{formula, number};
 use crate::record::Record;
@@ -16,17 +16,13 @@ use lensmodel::name::Name;
 
 /// The glass that an NM line begins, the one after `seen` others.
 pub fn begun(line: &Record<'_>, at: u32, seen: u32) -> Result<Glass, AgfFault>
+    requires { 2 < length (words line.now.units.now) }
     ensures glass { IfOk result (λ g. g ≡ glass_of (words line.now.units.now) []) }
     ensures sound { IfOk result (λ g. NM_fault at seen (words line.now.units.now) ≡ None) }
     ensures fault { IfErr result (λ f. NM_fault at seen (words line.now.units.now) ≡ Some f) }
 {
-    let Some(word) = line.word(2) else {
-        return Err(AgfFault::MissingWord { line: at });
-    };
-    let Some(name) = line.word(1) else {
-        return Err(AgfFault::MissingWord { line: at });
-    };
-    let Some(formula) = formula(word) else {
+    let name = line.known_word(1);
+    let Some(formula) = formula(line.known_word(2)) else {
         return Err(AgfFault::BadNumber { line: at, word: 3 });
     };
     if name.len() > 40 {
@@ -72,7 +68,7 @@ fn bare(name: &[u16], formula: u32) -> Glass
 }
 
 /// Puts the coefficients of a CD line into a glass.
-pub fn set_coefficients(glass: &mut Glass, line: &Record<'_>, at: u32) -> Result<(), AgfFault>
+fn set_coefficients(glass: &mut Glass, line: &Record<'_>, at: u32) -> Result<(), AgfFault>
     ensures glass { OnOk result (glass.new ≡ with_coefficients (words line.now.units.now) glass.old) }
     ensures sound { OnOk result (CD_fault at (words line.now.units.now) ≡ None) }
     ensures fault { IfErr result (λ f. CD_fault at (words line.now.units.now) ≡ Some f) }
@@ -92,15 +88,25 @@ pub fn set_coefficients(glass: &mut Glass, line: &Record<'_>, at: u32) -> Result
     Ok(())
 }
 
+/// Puts the coefficients of a CD line into a glass, where its formula uses them.
+pub fn set_used_coefficients(glass: &mut Glass, line: &Record<'_>, at: u32) -> Result<(), AgfFault>
+    ensures glass { OnOk result (glass.new ≡ with_CD (words line.now.units.now) glass.old) }
+    ensures sound { OnOk result (used_CD_fault at glass.old (words line.now.units.now) ≡ None) }
+    ensures fault { IfErr result (λ f. used_CD_fault at glass.old (words line.now.units.now) ≡ Some f) }
+{
+    match glass.formula {
+        1 | 2 => set_coefficients(glass, line, at),
+        _ => Ok(()),
+    }
+}
+
 /// Puts the bounds of an LD line into a glass.
 pub fn set_bounds(glass: &mut Glass, line: &Record<'_>, at: u32) -> Result<(), AgfFault>
+    requires { 2 < length (words line.now.units.now) }
     ensures glass { OnOk result (glass.new ≡ with_bounds (words line.now.units.now) glass.old) }
     ensures sound { OnOk result (LD_fault at (words line.now.units.now) ≡ None) }
     ensures fault { IfErr result (λ f. LD_fault at (words line.now.units.now) ≡ Some f) }
 {
-    if line.word(2).is_none() {
-        return Err(AgfFault::MissingWord { line: at });
-    }
     let low = number(line, at, 1)?;
     let high = number(line, at, 2)?;
     glass.low = Some(low);

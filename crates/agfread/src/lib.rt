@@ -5,4 +5,5 @@ mod glass;
 mod number;
 pub mod read;
 mod record;
+mod table;
 mod walk;

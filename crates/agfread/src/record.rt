@@ -1,6 +1,6 @@
 //! The words of one line.
 
-ghost use Rattle.std.specs.Prelude.{◌≡◌, ◌<◌, ◌≤◌, false, true, length, take, map, slice_range, MatchOption};
+ghost use Rattle.std.specs.Prelude.{◌≡◌, ◌<◌, ◌≤◌, ◌-◌, ◌↔◌, IsTrue, false, true, length, take, map, slice_range, MatchOption};
 ghost use Rattle.std.specs.List.{All};
 ghost use Rattle.lensmodel.specs.Records.{word_at};
 ghost use Rattle.lensmodel.specs.TextLines.{words};
@@ -67,6 +67,24 @@ impl<'a> Record<'a> {
         }
         let (start, end) = self.ranges[k];
         Some(&self.units[start..end])
+    }
+
+    /// The word at `k`, from 0, of a line that has it.
+    pub fn known_word(&self, k: usize) -> &'a [u16]
+        requires within { k < 64 }
+        requires there { k < length (words self.now.units.now) }
+        ensures { result.now ≡ word_at k (words self.now.units.now) }
+    {
+        let (start, end) = self.ranges[k];
+        &self.units[start..end]
+    }
+
+    /// Whether fewer words than `wanted`, which is at most 63, stand behind the line's first.
+    pub fn lacks(&self, wanted: usize) -> bool
+        requires { wanted < 64 }
+        ensures { IsTrue result ↔ length (words self.now.units.now) - 1 < wanted }
+    {
+        self.ranges.len().saturating_sub(1) < wanted
     }
 
     /// What the line begins with.

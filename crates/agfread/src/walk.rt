@@ -1,15 +1,15 @@
 //! The walk along the lines of a catalogue.
 
-ghost use Rattle.std.specs.Prelude.{◌≡◌, ◌≢◌, ◌++◌, ◌∷◌, ◌+◌, [], List, None, Some, IfOk, IfErr, OnOk};
+ghost use Rattle.std.specs.Prelude.{◌≡◌, ◌≢◌, ◌++◌, ◌∷◌, ◌+◌, ◌<◌, length, [], List, None, Some, IfOk, IfErr, OnOk};
 ghost use Rattle.lensmodel.specs.Catalogue.{offence, glass_of, NM_fault};
 ghost use Rattle.lensmodel.specs.Records.{Words};
-ghost use Rattle.agfread.specs.Records.{open_CD_fault, open_LD_fault, after_CD, after_LD};
 ghost use Rattle.lensmodel.specs.TextLines.{words};
 ghost use Rattle.agfread.specs.Walked.{closed_with};
 ghost use Rattle.agfread.specs.Readers.{IsAt};
 
-use crate::glass::{begun, set_bounds, set_coefficients};
+use crate::glass::{begun, set_bounds, set_used_coefficients};
 use crate::record::{Record, Tag};
+use crate::table::record_table;
 use glassbook::book::GlassBook;
 use lensmodel::fault::AgfFault;
 use lensmodel::glass::Glass;
@@ -45,16 +45,18 @@ impl Reader {
         ensures fault { IfErr result (λ f. f ≢ AgfFault.Memory → (before : List Words) → IsAt before self.old
             → offence at before (words line.now.units.now) ≡ Some f) }
     {
-        match line.tag() {
-            Tag::Nm => self.begin(at, line),
-            Tag::Cd => self.coefficients(at, line),
-            Tag::Ld => self.bounds(at, line),
-            Tag::Other => Ok(()),
-        }
+        record_table!(line, AgfFault::MissingWord { line: at } => {
+            Tag::Nm, 2 words => self.begin(at, line),
+            Tag::Cd, let Some(glass) = &mut self.current, else AgfFault::OrphanRecord { line: at },
+                0 words => set_used_coefficients(glass, line, at),
+            Tag::Ld, let Some(glass) = &mut self.current, else AgfFault::OrphanRecord { line: at },
+                2 words => set_bounds(glass, line, at),
+        } else Ok(()))
     }
 
     /// Closes the open glass, and opens that of an NM line.
     fn begin(&mut self, at: u32, line: &Record<'_>) -> Result<(), AgfFault>
+        requires { 2 < length (words line.now.units.now) }
         ensures sound { OnOk result (NM_fault at self.old.seen (words line.now.units.now) ≡ None) }
         ensures opened { OnOk result (self.new.current ≡ Some (glass_of (words line.now.units.now) [])) }
         ensures book { OnOk result (self.new.book ≡ closed_with self.old.current self.old.book) }
@@ -66,37 +68,6 @@ impl Reader {
         self.current = Some(glass);
         self.seen += 1;
         Ok(())
-    }
-
-    /// Gives the open glass the coefficients of a CD line, where its formula uses them.
-    fn coefficients(&mut self, at: u32, line: &Record<'_>) -> Result<(), AgfFault>
-        ensures sound { OnOk result (open_CD_fault at self.old.current (words line.now.units.now) ≡ None) }
-        ensures opened { OnOk result (self.new.current ≡ after_CD (words line.now.units.now) self.old.current) }
-        ensures book { OnOk result (self.new.book ≡ self.old.book) }
-        ensures seen { OnOk result (self.new.seen ≡ self.old.seen) }
-        ensures fault { IfErr result (λ f. open_CD_fault at self.old.current (words line.now.units.now) ≡ Some f) }
-    {
-        let Some(glass) = &mut self.current else {
-            return Err(AgfFault::OrphanRecord { line: at });
-        };
-        match glass.formula {
-            1 | 2 => set_coefficients(glass, line, at),
-            _ => Ok(()),
-        }
-    }
-
-    /// Gives the open glass the bounds of an LD line.
-    fn bounds(&mut self, at: u32, line: &Record<'_>) -> Result<(), AgfFault>
-        ensures sound { OnOk result (open_LD_fault at self.old.current (words line.now.units.now) ≡ None) }
-        ensures opened { OnOk result (self.new.current ≡ after_LD (words line.now.units.now) self.old.current) }
-        ensures book { OnOk result (self.new.book ≡ self.old.book) }
-        ensures seen { OnOk result (self.new.seen ≡ self.old.seen) }
-        ensures fault { IfErr result (λ f. open_LD_fault at self.old.current (words line.now.units.now) ≡ Some f) }
-    {
-        let Some(glass) = &mut self.current else {
-            return Err(AgfFault::OrphanRecord { line: at });
-        };
-        set_bounds(glass, line, at)
     }
 
     /// Puts the open glass into the book.
