@@ -2,8 +2,8 @@
 use Rattle.std.specs.Prelude.{◌≡◌, ℕ, true, false, List, [], ◌∷◌, ◌++◌, map, nat_eq, Some, if◌then◌else◌, refl}
 use Rattle.std.proofs.Common.{ap, sym, ◌∙◌, subst, true≢false}
 use lib.Pointwise.{pointwise}
-use Rattle.lensmodel.specs.Catalogue.{find_glass, without_name, book}
-use Rattle.lensmodel.specs.Media.{same_name, upper}
+use Rattle.lensmodel.specs.Files.Catalogue.{find_glass, without_name, book}
+use Rattle.lensmodel.specs.Setup.Media.{same_name, upper}
 use Rattle.lensmodel.specs.declared.glass.Glass.{Glass}
 use Rattle.std.proofs.lemmas.Bool.{eqb-true, eq-eqb}
 use Rattle.agfread.specs.Walked.{is_none, with_glass}

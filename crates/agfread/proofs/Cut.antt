@@ -2,7 +2,7 @@
 use Rattle.std.proofs.Common.{◌≡◌, ℕ, zero, suc, ◌<◌, ◌≤◌, true, false, List, [], ◌∷◌, length, take, map, refl, sym, ap, ◌∙◌, min, arith, true≢false}
 use Rattle.std.specs.Prelude.{slice_index_or}
 use Rattle.std.proofs.lemmas.List.{length-map, length-take}
-use Rattle.lensmodel.specs.Records.{Words, word_at}
+use Rattle.lensmodel.specs.Files.Records.{Words, word_at}
 use Rattle.agfread.specs.Records.{has_word}
 
 pub has_word-take : (n k : ℕ) (ws : Words) → k < n → has_word k (take n ws) ≡ has_word k ws

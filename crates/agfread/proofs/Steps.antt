@@ -2,8 +2,8 @@
 use Rattle.std.proofs.Common.{◌≡◌, ◌≢◌, ℕ, ◌+◌, Bool, true, false, List, [], ◌∷◌, ◌++◌, refl, sym, ap, subst, ◌∙◌, arith}
 use Rattle.std.specs.Prelude.{Option, Some, None, Result, Ok, Err, OnOk, nat_eq, codes, if◌then◌else◌}
 use lib.Pointwise.{pointwise}
-use Rattle.lensmodel.specs.Catalogue.{is_NM, is_CD, is_LD, glass_of, is_used, offence, NM_offence, CD_offence, LD_offence, NM_fault, LD_fault}
-use Rattle.lensmodel.specs.Records.{Words, last_where, count_where}
+use Rattle.lensmodel.specs.Files.Catalogue.{is_NM, is_CD, is_LD, glass_of, is_used, offence, NM_offence, CD_offence, LD_offence, NM_fault, LD_fault}
+use Rattle.lensmodel.specs.Files.Records.{Words, last_where, count_where}
 use Rattle.lensmodel.specs.declared.glass.Glass.{Glass}
 use Rattle.agfread.specs.Records.{with_coefficients, with_bounds, used_CD_fault, with_CD}
 use Rattle.agfread.proofs.Growth.{last_where-append, count_where-append, all_glasses-begins, all_glasses-grows, on_last, on_last-append, Changes, CD-changes, LD-changes, others-change}

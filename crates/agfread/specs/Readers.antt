@@ -1,7 +1,7 @@
 -- Where a reader stands.
 use Rattle.std.specs.Prelude.{◌≡◌, List}
-use Rattle.lensmodel.specs.Catalogue.{is_NM}
-use Rattle.lensmodel.specs.Records.{Words, count_where}
+use Rattle.lensmodel.specs.Files.Catalogue.{is_NM}
+use Rattle.lensmodel.specs.Files.Records.{Words, count_where}
 use Rattle.agfread.specs.Walked.{Walked}
 use Rattle.agfread.specs.declared.walk.Reader.{Reader}
 

@@ -1,7 +1,7 @@
 -- What a line begins with.
 use Rattle.std.specs.Prelude.{ℕ, List, [], ◌∷◌, if◌then◌else◌}
-use Rattle.lensmodel.specs.Catalogue.{is_NM, is_CD, is_LD}
-use Rattle.lensmodel.specs.Records.{Words}
+use Rattle.lensmodel.specs.Files.Catalogue.{is_NM, is_CD, is_LD}
+use Rattle.lensmodel.specs.Files.Records.{Words}
 use Rattle.agfread.specs.declared.record.Tag.{Tag}
 use Rattle.agfread.specs.declared.record.Tag.TheVariants.{Nm, Cd, Ld, Other}
 

@@ -1,7 +1,7 @@
 -- How far a catalogue was read: the glass that is still open, and the book of those before it.
 use Rattle.std.specs.Prelude.{◌≡◌, Bool, true, false, List, [], ◌∷◌, ◌++◌, Option, Some, None, if◌then◌else◌}
-use Rattle.lensmodel.specs.Catalogue.{is_NM, all_glasses, formula_number, book, find_glass}
-use Rattle.lensmodel.specs.Records.{Words, last_where}
+use Rattle.lensmodel.specs.Files.Catalogue.{is_NM, all_glasses, formula_number, book, find_glass}
+use Rattle.lensmodel.specs.Files.Records.{Words, last_where}
 use Rattle.lensmodel.specs.declared.glass.Glass.{Glass}
 
 -- the last glass of the lines is open, and those before it are in the book

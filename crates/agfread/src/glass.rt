@@ -1,9 +1,9 @@
 //! The glass of a record.
 
 ghost use Rattle.std.specs.Prelude.{◌≡◌, ◌≤◌, ◌<◌, [], Some, None, length, IfOk, IfErr, OnOk};
-ghost use Rattle.lensmodel.specs.Catalogue.{glass_of, NM_fault, CD_fault, LD_fault};
-ghost use Rattle.lensmodel.specs.TextLines.{words};
-ghost use Rattle.lensmodel.specs.Values.{zero_decimal};
+ghost use Rattle.lensmodel.specs.Files.Catalogue.{glass_of, NM_fault, CD_fault, LD_fault};
+ghost use Rattle.lensmodel.specs.Files.TextLines.{words};
+ghost use Rattle.lensmodel.specs.Setup.Values.{zero_decimal};
 ghost use Rattle.agfread.specs.Records.{used_CD_fault, with_CD, with_coefficients, with_bounds};
 
 use crate::number::{formula, number};

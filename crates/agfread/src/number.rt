@@ -2,9 +2,9 @@
 
 ghost use Rattle.std.specs.Prelude.{◌≡◌, ◌<◌, Some, None, MatchOption, IfOk, IfErr};
 ghost use Rattle.fixdec.specs.Reading.{decimal_of};
-ghost use Rattle.lensmodel.specs.Catalogue.{formula_of, small_number};
-ghost use Rattle.lensmodel.specs.Records.{whole_at, word_at, decimal_or_0};
-ghost use Rattle.lensmodel.specs.TextLines.{words};
+ghost use Rattle.lensmodel.specs.Files.Catalogue.{formula_of, small_number};
+ghost use Rattle.lensmodel.specs.Files.Records.{whole_at, word_at, decimal_or_0};
+ghost use Rattle.lensmodel.specs.Files.TextLines.{words};
 ghost use Rattle.agfread.specs.Records.{word_fault};
 
 use crate::record::Record;

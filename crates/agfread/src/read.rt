@@ -1,8 +1,8 @@
 //! The glasses of a catalogue.
 
 ghost use Rattle.std.specs.Prelude.{◌≡◌, ◌≢◌, ◌<◌, length, Ok, Err, IfOk, IfErr, if◌then◌else◌};
-ghost use Rattle.lensmodel.specs.Catalogue.{catalogue, of_lines};
-ghost use Rattle.lensmodel.specs.Records.{each_words};
+ghost use Rattle.lensmodel.specs.Files.Catalogue.{catalogue, of_lines};
+ghost use Rattle.lensmodel.specs.Files.Records.{each_words};
 
 use crate::record::Record;
 use crate::walk::Reader;

@@ -2,8 +2,8 @@
 
 ghost use Rattle.std.specs.Prelude.{◌≡◌, ◌<◌, ◌≤◌, ◌-◌, ◌↔◌, IsTrue, false, true, length, take, map, slice_range, MatchOption};
 ghost use Rattle.std.specs.List.{All};
-ghost use Rattle.lensmodel.specs.Records.{word_at};
-ghost use Rattle.lensmodel.specs.TextLines.{words};
+ghost use Rattle.lensmodel.specs.Files.Records.{word_at};
+ghost use Rattle.lensmodel.specs.Files.TextLines.{words};
 ghost use Rattle.agfread.specs.Records.{has_word};
 ghost use Rattle.agfread.specs.Tags.{tag_of, tag_of_word};
 

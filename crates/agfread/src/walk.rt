@@ -1,9 +1,9 @@
 //! The walk along the lines of a catalogue.
 
 ghost use Rattle.std.specs.Prelude.{◌≡◌, ◌≢◌, ◌++◌, ◌∷◌, ◌+◌, ◌<◌, length, [], List, None, Some, IfOk, IfErr, OnOk};
-ghost use Rattle.lensmodel.specs.Catalogue.{offence, glass_of, NM_fault};
-ghost use Rattle.lensmodel.specs.Records.{Words};
-ghost use Rattle.lensmodel.specs.TextLines.{words};
+ghost use Rattle.lensmodel.specs.Files.Catalogue.{offence, glass_of, NM_fault};
+ghost use Rattle.lensmodel.specs.Files.Records.{Words};
+ghost use Rattle.lensmodel.specs.Files.TextLines.{words};
 ghost use Rattle.agfread.specs.Walked.{closed_with};
 ghost use Rattle.agfread.specs.Readers.{IsAt};
 

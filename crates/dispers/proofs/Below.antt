@@ -8,17 +8,17 @@ use Rattle.std.specs.Prelude.{ℤ, pos, negsuc, ◌+ℤ◌, ◌*ℤ◌, ◌<ℤ�
 use lib.IntN.{neg_ℤ}
 use Rattle.fixdec.specs.Decimal.{Decimal, ten_power, value}
 use Rattle.fixdec.specs.Frac.{◌≈◌, ◌≤Q◌, ◌<Q◌, whole}
-use Rattle.fixdec.specs.FracLaws.{≈_refl, ≈_sym, ≈_trans}
-use Rattle.fixdec.specs.IntLaws.{ringℤ}
-use Rattle.fixdec.specs.Linear.{linear, fact, no_fact, reads}
-use Rattle.fixdec.specs.MemberLaws.{unit_pos}
-use Rattle.fixdec.specs.Order.{le_trans, le_whole, le_whole_out}
-use Rattle.fixdec.specs.OrderLaws.{le_along, le_cancel, le_mul, le_of_lt, lt_along, lt_from_not, lt_not_le, lt_whole, lt_whole_out, whole_mul}
-use Rattle.fixdec.specs.PowerLaws.{value-times}
-use Rattle.fixdec.specs.Ring.{var, ◌⊗◌, neg}
+use Rattle.fixdec.specs.Algebra.FracLaws.{≈_refl, ≈_sym, ≈_trans}
+use Rattle.fixdec.specs.Algebra.IntLaws.{ringℤ}
+use Rattle.fixdec.specs.Algebra.Linear.{linear, fact, no_fact, reads}
+use Rattle.fixdec.specs.Algebra.MemberLaws.{unit_pos}
+use Rattle.fixdec.specs.Algebra.Order.{le_trans, le_whole, le_whole_out}
+use Rattle.fixdec.specs.Algebra.OrderLaws.{le_along, le_cancel, le_mul, le_of_lt, lt_along, lt_from_not, lt_not_le, lt_whole, lt_whole_out, whole_mul}
+use Rattle.fixdec.specs.Algebra.PowerLaws.{value-times}
+use Rattle.fixdec.specs.Algebra.Ring.{var, ◌⊗◌, neg}
 use Rattle.fixdec.specs.Rounding.{ratio, IsCeil}
-use Rattle.fixdec.specs.RoundingLaws.{ratio_is}
-use Rattle.lensmodel.specs.Picking.{is_below_decimal}
+use Rattle.fixdec.specs.Algebra.RoundingLaws.{ratio_is}
+use Rattle.lensmodel.specs.Files.Picking.{is_below_decimal}
 
 -- each of two facts follows from the other
 record Same (P Q : Type 0) : Type 0 where

@@ -5,13 +5,13 @@ use Rattle.fixdec.specs.Decimal.{Decimal}
 use Rattle.fixdec.specs.Ends.{Ends}
 use Rattle.fixdec.specs.Frac.{Frac}
 use Rattle.fixdec.specs.Member.{IsMember, units}
-use Rattle.fixdec.specs.MemberLaws.{units_pos}
-use Rattle.fixdec.specs.Order.{le_trans, le_whole}
-use Rattle.fixdec.specs.OrderLaws.{le_cancel, le_same_left, le_same_right, whole_mul}
-use Rattle.fixdec.specs.FracLaws.{≈_sym}
-use Rattle.lensmodel.specs.Dispersion.{IsIndex}
-use Rattle.lensmodel.specs.Picking.{picked, medium_of}
-use Rattle.lensmodel.specs.Residual.{residual}
+use Rattle.fixdec.specs.Algebra.MemberLaws.{units_pos}
+use Rattle.fixdec.specs.Algebra.Order.{le_trans, le_whole}
+use Rattle.fixdec.specs.Algebra.OrderLaws.{le_cancel, le_same_left, le_same_right, whole_mul}
+use Rattle.fixdec.specs.Algebra.FracLaws.{≈_sym}
+use Rattle.lensmodel.specs.Equations.Dispersion.{IsIndex}
+use Rattle.lensmodel.specs.Files.Picking.{picked, medium_of}
+use Rattle.lensmodel.specs.Equations.Residual.{residual}
 use Rattle.lensmodel.specs.declared.fault.CrossFault.{CrossFault}
 use Rattle.lensmodel.specs.declared.glass.Glass.{Glass}
 use Rattle.lensmodel.specs.declared.glass.Medium.{Medium}

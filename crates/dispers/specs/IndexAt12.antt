@@ -8,14 +8,14 @@ use Rattle.fixdec.specs.Ends.{Ends}
 use Rattle.fixdec.specs.Frac.{Frac, ◌≤Q◌, ◌*Q◌, whole}
 use Rattle.fixdec.specs.IntervalOperations.{operations}
 use Rattle.fixdec.specs.Member.{IsMember, Symbols, units}
-use Rattle.fixdec.specs.Order.{le_of_same, le_whole}
-use Rattle.fixdec.specs.PowerLaws.{dec_span_member, ten_power_is}
+use Rattle.fixdec.specs.Algebra.Order.{le_of_same, le_whole}
+use Rattle.fixdec.specs.Algebra.PowerLaws.{dec_span_member, ten_power_is}
 use Rattle.fixdec.specs.Scaled.{dec_span}
 use Rattle.fixdec.specs.Steps.{OnVal, OnVal-then}
 use Rattle.fixdec.specs.declared.step.Step.TheVariants.{Val}
-use Rattle.lensmodel.specs.Dispersion.{IsGlassIndex}
-use Rattle.lensmodel.specs.Picking.{index_at_12}
-use Rattle.lensmodel.specs.Residual.{residual}
+use Rattle.lensmodel.specs.Equations.Dispersion.{IsGlassIndex}
+use Rattle.lensmodel.specs.Files.Picking.{index_at_12}
+use Rattle.lensmodel.specs.Equations.Residual.{residual}
 use Rattle.lensmodel.specs.declared.glass.Glass.{Glass}
 use Rattle.lensmodel.specs.declared.glass.Medium.TheVariants.{Of}
 use Rattle.sagform.specs.IndexLaws.{index_rows-encloses}

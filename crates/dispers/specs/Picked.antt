@@ -7,8 +7,8 @@ use Rattle.fixdec.specs.Decimal.{Decimal}
 use Rattle.fixdec.specs.Ends.{Ends}
 use Rattle.fixdec.specs.declared.step.Step.{Step}
 use Rattle.fixdec.specs.declared.step.Step.TheVariants.{Val, Empty, Lost}
-use Rattle.lensmodel.specs.Catalogue.{find_glass, is_used}
-use Rattle.lensmodel.specs.Picking.{is_under, is_over, index_at_12, is_good_index, usable, usable_if_found, picked}
+use Rattle.lensmodel.specs.Files.Catalogue.{find_glass, is_used}
+use Rattle.lensmodel.specs.Files.Picking.{is_under, is_over, index_at_12, is_good_index, usable, usable_if_found, picked}
 use Rattle.lensmodel.specs.declared.fault.CrossFault.TheVariants.{Formula, WaveRange, BadIndex}
 use Rattle.lensmodel.specs.declared.glass.Glass.{Glass}
 

@@ -2,8 +2,8 @@
 
 ghost use Rattle.std.specs.Prelude.{◌≡◌, ℤ, pos, negsuc, ◌≤◌, ◌≤ℤ◌};
 ghost use Rattle.fixdec.specs.Ends.{InCap};
-ghost use Rattle.lensmodel.specs.Dispersion.{IsKnown};
-ghost use Rattle.lensmodel.specs.IndexRows as rows;
+ghost use Rattle.lensmodel.specs.Equations.Dispersion.{IsKnown};
+ghost use Rattle.lensmodel.specs.Rows.Index as rows;
 ghost use Rattle.sagform.specs.IndexLaws.{EnclosesIndex};
 
 use enclose::arith::Arith;

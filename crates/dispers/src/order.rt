@@ -1,7 +1,7 @@
 //! The order of decimals by their values.
 
 ghost use Rattle.std.specs.Prelude.{◌≡◌, ℤ, pos, negsuc, ◌<◌, ◌^◌, ◌*ℤ◌, ◌≤ℤ◌, int_lt, unsigned_abs};
-ghost use Rattle.lensmodel.specs.Picking.{is_below_decimal};
+ghost use Rattle.lensmodel.specs.Files.Picking.{is_below_decimal};
 
 use fixdec::dec::Dec;
 use fixdec::div::{ceil_div, pow10};

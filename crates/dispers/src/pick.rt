@@ -2,10 +2,10 @@
 
 ghost use Rattle.std.specs.Prelude.{◌≡◌, ◌⊎◌, ℤ, pos, negsuc, ◌<ℤ◌, ◌≤ℤ◌, IfOk};
 ghost use Rattle.fixdec.specs.Frac.{Frac};
-ghost use Rattle.lensmodel.specs.Catalogue as catalogue;
-ghost use Rattle.lensmodel.specs.Dispersion.{IsIndex};
-ghost use Rattle.lensmodel.specs.Picking as picking;
-ghost use Rattle.lensmodel.specs.Residual.{residual};
+ghost use Rattle.lensmodel.specs.Files.Catalogue as catalogue;
+ghost use Rattle.lensmodel.specs.Equations.Dispersion.{IsIndex};
+ghost use Rattle.lensmodel.specs.Files.Picking as picking;
+ghost use Rattle.lensmodel.specs.Equations.Residual.{residual};
 ghost use Rattle.dispers.specs.Limits.{IsFrom1To5};
 
 use crate::index::index;

@@ -8,11 +8,11 @@ use lib.IntN.{neg_ℤ}
 use Rattle.fixdec.specs.Decimal.{ten_power}
 use Rattle.fixdec.specs.Ends.{Ends}
 use Rattle.fixdec.specs.Frac.{whole, ◌≈◌, ◌≤Q◌, ◌*Q◌}
-use Rattle.fixdec.specs.FracLaws.{≈_sym}
-use Rattle.fixdec.specs.Terms.{is, is_mul, is_whole, same_if}
-use Rattle.fixdec.specs.Linear.{linear_le, order, no_fact, reads}
-use Rattle.fixdec.specs.Order.{cancel_Q, le_of_same, le_trans, le_whole, le_whole_out, nn_in, nn_whole}
-use Rattle.fixdec.specs.PowerLaws.{ten_power_is}
+use Rattle.fixdec.specs.Algebra.FracLaws.{≈_sym}
+use Rattle.fixdec.specs.Algebra.Terms.{is, is_mul, is_whole, same_if}
+use Rattle.fixdec.specs.Algebra.Linear.{linear_le, order, no_fact, reads}
+use Rattle.fixdec.specs.Algebra.Order.{cancel_Q, le_of_same, le_trans, le_whole, le_whole_out, nn_in, nn_whole}
+use Rattle.fixdec.specs.Algebra.PowerLaws.{ten_power_is}
 use Rattle.fixdec.specs.Zone.{least_power, nano, norm, IsNorm, IsZone}
 
 pub least_power-found : (z n k : ℕ) → z * z ≤ 10 ^ k → least_power z n k ≡ k

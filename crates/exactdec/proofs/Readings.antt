@@ -7,11 +7,11 @@ use Rattle.std.specs.Prelude.{Result, IfOk, ◌+ℤ◌, ◌-ℤ◌, ◌*ℤ◌}
 use Rattle.std.specs.Result.{result_ok}
 use Rattle.fixdec.specs.Decimal.{Decimal, value, ten_power}
 use Rattle.fixdec.specs.Frac.{whole, neg_Q, ◌≈◌}
-use Rattle.fixdec.specs.FracLaws.{≈_refl, ≈_trans}
-use Rattle.fixdec.specs.IntLaws.{ringℤ}
-use Rattle.fixdec.specs.Ring.{var, neg, ◌⊗◌}
-use Rattle.fixdec.specs.Linear.{linear, fact, no_fact, reads}
-use Rattle.fixdec.specs.PowerLaws.{whole-mul, value-times, value-zero}
+use Rattle.fixdec.specs.Algebra.FracLaws.{≈_refl, ≈_trans}
+use Rattle.fixdec.specs.Algebra.IntLaws.{ringℤ}
+use Rattle.fixdec.specs.Algebra.Ring.{var, neg, ◌⊗◌}
+use Rattle.fixdec.specs.Algebra.Linear.{linear, fact, no_fact, reads}
+use Rattle.fixdec.specs.Algebra.PowerLaws.{whole-mul, value-times, value-zero}
 use Rattle.fixdec.specs.Word.{Parts, AreDigits, Spells, spelling, digits, from_first, significant, kept, written, signed, number, IsReadable}
 use Rattle.fixdec.specs.Reading.{is_readable, Split, split, is_whole, decimal_of}
 use Rattle.exactdec.specs.Reading.{IsAnswer, judged, reading}

@@ -8,9 +8,10 @@ use Rattle.std.specs.Int.Signed.{le_z}
 use Rattle.std.specs.Prelude.{◌≤ℤ◌, ◌+ℤ◌, ◌*ℤ◌, unsigned_abs, FitsSigned}
 use lib.IntN.{neg_ℤ}
 use Rattle.fixdec.specs.Interval.{ends, fits_cap}
-use Rattle.fixdec.specs.Order.{cancel_le}
-use Rattle.fixdec.specs.PowerLaws.{power_above}
-use Rattle.fixdec.specs.Rounding.{floor, ceil, floor_below, ceil_above}
+use Rattle.fixdec.specs.Algebra.Order.{cancel_le}
+use Rattle.fixdec.specs.Algebra.PowerLaws.{power_above}
+use Rattle.fixdec.specs.Rounding.{floor, ceil}
+use Rattle.fixdec.specs.Algebra.RoundingLaws.{floor_below, ceil_above}
 use Rattle.fixdec.specs.Scaled.{floor_times, ceil_times}
 use Rattle.fixdec.specs.Word.{IsReadable}
 use Rattle.fixdec.specs.declared.step.Step.TheVariants.{Val, Lost}

@@ -11,10 +11,10 @@ use Rattle.fixdec.specs.Ends.{Ends, InCap}
 use Rattle.fixdec.specs.Interval.{ends, fits_cap}
 use Rattle.fixdec.specs.Scaled.{floor_times, ceil_times, dec_ceil}
 use Rattle.fixdec.specs.Frac.{whole, neg_Q, ◌≈◌, ◌*Q◌}
-use Rattle.fixdec.specs.Terms.{is, is_mul, is_whole, same_if}
-use Rattle.fixdec.specs.Linear.{linear, fact, no_fact, reads}
+use Rattle.fixdec.specs.Algebra.Terms.{is, is_mul, is_whole, same_if}
+use Rattle.fixdec.specs.Algebra.Linear.{linear, fact, no_fact, reads}
 use Rattle.fixdec.specs.Member.{units}
-use Rattle.fixdec.specs.PowerLaws.{is_tenth, whole-mul, ten_power-add, dec_ceil_is, ceil_same}
+use Rattle.fixdec.specs.Algebra.PowerLaws.{is_tenth, whole-mul, ten_power-add, dec_ceil_is, ceil_same}
 use Rattle.fixdec.specs.Rounding.{IsCeil}
 use Rattle.fixdec.specs.Zone.{zone, zone_span, IsZone, times_1_1, eleven_tenths}
 use Rattle.fixdec.specs.declared.step.Step.TheVariants.{Val, Lost}

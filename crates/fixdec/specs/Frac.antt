@@ -1,7 +1,6 @@
 -- A fraction is a whole numerator over a positive whole denominator. Fractions are compared by cross multiplication.
-use Rattle.std.specs.Prelude.{◌≡◌, ℕ, suc, ℤ, pos, ◌+◌, ◌*◌, ◌+ℤ◌, ◌*ℤ◌, ◌≤ℤ◌, ◌<ℤ◌, List}
+use Rattle.std.specs.Prelude.{◌≡◌, ℕ, suc, ℤ, pos, ◌+◌, ◌*◌, ◌+ℤ◌, ◌*ℤ◌, ◌≤ℤ◌, ◌<ℤ◌, unsigned_abs}
 use lib.IntN.{neg_ℤ}
-use Rattle.fixdec.specs.Ring.{E, eval, at, Given, Holds, Bounds, Bound, Defs, Stands}
 
 -- `num` over `less + 1`
 pub record Frac : Type 0 where
@@ -43,18 +42,6 @@ x -Q y = x +Q neg_Q y
 unfoldable pub whole : ℤ → Frac
 whole z = record { num = z; less = 0 }
 
--- an expression over fractions, and the equations that are given
-abbrev pub atQ : List Frac → ℕ → Frac
-atQ xs = at ◌+Q◌ ◌*Q◌ ◌-Q◌ neg_Q whole xs
-
-abbrev pub evalQ : List Frac → E → Frac
-evalQ xs t = eval ◌+Q◌ ◌*Q◌ ◌-Q◌ neg_Q whole (atQ xs) t
-
-abbrev pub HoldsQ : List Frac → Given → Type 0
-HoldsQ xs g = Holds ◌+Q◌ ◌*Q◌ ◌-Q◌ neg_Q whole ◌≈◌ (atQ xs) g
-
-abbrev pub BoundQ : List Frac → Bounds → Type 0
-BoundQ xs b = Bound ◌+Q◌ ◌*Q◌ ◌-Q◌ neg_Q whole ◌≤Q◌ (atQ xs) b
-
-abbrev pub StandsQ : List Frac → Defs → Type 0
-StandsQ xs d = Stands ◌+Q◌ ◌*Q◌ ◌-Q◌ neg_Q whole ◌≈◌ (atQ xs) d
+-- the size of a fraction
+abbrev pub size : Frac → Frac
+size x = record { num = pos (unsigned_abs x.num); less = x.less }

@@ -4,7 +4,6 @@
 use Rattle.std.specs.Prelude.{ℕ, suc, ◌*◌, ◌^◌, min, max, Bool, ◌&&◌, if◌then◌else◌, ℤ, pos, negsuc, ◌+ℤ◌, ◌-ℤ◌, ◌*ℤ◌, int_le, int_lt, nat_le, unsigned_abs}
 use Rattle.std.specs.Int.{int_min, int_max}
 use Rattle.fixdec.specs.Ends.{Ends}
-use Rattle.fixdec.specs.Frac.{Frac}
 use Rattle.fixdec.specs.Root.{root, root_up_by}
 use Rattle.fixdec.specs.Rounding.{floor, ceil}
 use Rattle.fixdec.specs.declared.step.Step.{Step}
@@ -113,7 +112,3 @@ iv_clip a s =
 -- the sizes of the numbers of an interval
 unfoldable pub iv_size : Ends → Ends
 iv_size a = record { lo = pos (least_size a); hi = pos (greatest_size a) }
-
--- the size of a fraction
-abbrev pub size : Frac → Frac
-size x = record { num = pos (unsigned_abs x.num); less = x.less }

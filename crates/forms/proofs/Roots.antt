@@ -10,7 +10,8 @@ use Rattle.fixdec.specs.Interval.{iv_root}
 use Rattle.fixdec.specs.Steps.{◌>>=◌}
 use Rattle.fixdec.specs.declared.step.Step.{Step}
 use Rattle.fixdec.specs.declared.step.Step.TheVariants.{Val, Empty}
-use Rattle.fixdec.specs.Root.{root, root_is, IsRoot}
+use Rattle.fixdec.specs.Root.{root, IsRoot}
+use Rattle.fixdec.specs.Algebra.RootLaws.{root_is}
 
 positive : (n r : ℕ) → IsRoot n r → 0 < n → 0 < r
 positive n zero h l = let k = h.high in absurd (omega arith)

@@ -6,9 +6,9 @@ use Rattle.std.specs.Prelude.{ℤ, pos, unsigned_abs}
 use Rattle.fixdec.specs.Form.{LinearForm, divided, moved}
 use Rattle.fixdec.specs.FormMember.{IsFormMember, swing}
 use Rattle.fixdec.specs.Frac.{Frac, ◌+Q◌, ◌*Q◌, ◌-Q◌, whole}
-use Rattle.fixdec.specs.Linear.{linear, name, no_fact, reads}
+use Rattle.fixdec.specs.Algebra.Linear.{linear, name, no_fact, reads}
 use Rattle.fixdec.specs.Member.{Symbols, units}
-use Rattle.fixdec.specs.Within.{IsWithin, within_more, within_same}
+use Rattle.fixdec.specs.Algebra.Within.{HasSize, within_more, within_same}
 use Rattle.forms.specs.Divided.{divided-law}
 use Rattle.forms.specs.FormMembers.{aim, aim-moved, member-from}
 use Rattle.forms.specs.Leftovers.{ceils_cover}
@@ -16,7 +16,7 @@ use Rattle.forms.specs.Leftovers.{ceils_cover}
 -- g is a first guess of v in units
 module _ (scale : ℕ) (s : Symbols) (g : ℤ) (v : Frac) where
   -- where v less g is within a form's radius of its aim, v is a member of the form moved by g
-  moved_law : (f : LinearForm) → IsWithin (whole (pos f.radius)) ((v *Q units scale -Q whole g) -Q aim f s) → IsFormMember scale (moved g f) s v
+  moved_law : (f : LinearForm) → HasSize (whole (pos f.radius)) ((v *Q units scale -Q whole g) -Q aim f s) → IsFormMember scale (moved g f) s v
   moved_law f h =
       member-from scale (moved g f) s v
       (within_same
@@ -25,7 +25,7 @@ module _ (scale : ℕ) (s : Symbols) (g : ℤ) (v : Frac) where
 
   -- where v less g, times d, is within k + m of n and the swing of ns, v is a member of the form of n and ns over d, moved by g
   pub corrected_law : (d n : ℤ) (ns : List ℤ) (k m : ℕ) → 0 < unsigned_abs d
-      → IsWithin (whole (pos k) +Q whole (pos m)) ((v *Q units scale -Q whole g) *Q whole d -Q (whole n +Q swing ns s 0))
+      → HasSize (whole (pos k) +Q whole (pos m)) ((v *Q units scale -Q whole g) *Q whole d -Q (whole n +Q swing ns s 0))
       → IsFormMember scale (moved g (divided d n ns (div_ceil k (unsigned_abs d) + div_ceil m (unsigned_abs d)))) s v
   corrected_law d n ns k m some h =
       let c = unsigned_abs d in

@@ -10,14 +10,14 @@ use Rattle.std.specs.Prelude.{ℤ, pos, negsuc, ◌-ℤ◌, ◌*ℤ◌, ◌≤�
 use Rattle.fixdec.specs.Form.{divided, has_remainder, quotients, remainders}
 use Rattle.fixdec.specs.FormMember.{swing}
 use Rattle.fixdec.specs.Frac.{Frac, ◌≈◌, ◌≤Q◌, ◌<Q◌, ◌+Q◌, ◌*Q◌, ◌-Q◌, neg_Q, whole}
-use Rattle.fixdec.specs.FracLaws.{Q-IsRing, ≈_sym, ≈_trans}
-use Rattle.fixdec.specs.Linear.{by_ring, linear, fact, name, no_fact, reads}
+use Rattle.fixdec.specs.Algebra.FracLaws.{Q-IsRing, ≈_sym, ≈_trans}
+use Rattle.fixdec.specs.Algebra.Linear.{by_ring, linear, fact, name, no_fact, reads}
 use Rattle.fixdec.specs.Member.{Symbols}
-use Rattle.fixdec.specs.Order.{le_whole}
-use Rattle.fixdec.specs.OrderLaws.{le_same_right, lt_whole, whole_add, whole_mul, whole_neg, whole_same, whole_sub}
+use Rattle.fixdec.specs.Algebra.Order.{le_whole}
+use Rattle.fixdec.specs.Algebra.OrderLaws.{le_same_right, lt_whole, whole_add, whole_mul, whole_neg, whole_same, whole_sub}
 use Rattle.fixdec.specs.Rounding.{floor}
-use Rattle.fixdec.specs.RoundingLaws.{floor_pos, floor_pos_next, floor_neg, floor_neg_next}
-use Rattle.fixdec.specs.Within.{IsWithin, within_add, within_cancel, within_more, within_mul, within_neg, within_same, within_to, within_whole, within_zero}
+use Rattle.fixdec.specs.Algebra.RoundingLaws.{floor_pos, floor_pos_next, floor_neg, floor_neg_next}
+use Rattle.fixdec.specs.Algebra.Within.{HasSize, within_add, within_cancel, within_more, within_mul, within_neg, within_same, within_to, within_whole, within_zero}
 use Rattle.forms.specs.FormMembers.{aim}
 use Rattle.forms.specs.Swings.{symbol-within}
 
@@ -47,7 +47,7 @@ module _ (d : ℤ) (nonzero : d ≡ pos 0 → ⊥) where
   divisor_size = whole (pos (unsigned_abs d))
 
   -- a rounded quotient is off by less than 1
-  floor_off : (n : ℤ) → IsWithin divisor_size (whole n -Q whole (floor n d) *Q whole d)
+  floor_off : (n : ℤ) → HasSize divisor_size (whole n -Q whole (floor n d) *Q whole d)
   floor_off n =
       within_same left
       (within_more (le_whole (by_lt_z {P = pos (unsigned_abs (n -ℤ f *ℤ d)) ≤ℤ pos (unsigned_abs d)} d (pos 0) below above)) (within_whole (n -ℤ f *ℤ d)))
@@ -70,23 +70,23 @@ module _ (d : ℤ) (nonzero : d ≡ pos 0 → ⊥) where
           let q = floor_pos_next n d g in
           omega (arith, ints)
 
-  exact : (n : ℤ) → floor n d *ℤ d ≡ n → IsWithin (whole (pos 0) *Q divisor_size) (whole n -Q whole (floor n d) *Q whole d)
+  exact : (n : ℤ) → floor n d *ℤ d ≡ n → HasSize (whole (pos 0) *Q divisor_size) (whole n -Q whole (floor n d) *Q whole d)
   exact n e =
       within_to (by_ring (divisor_size ∷ []) _ _ (search reads depth 12) tt)
       (within_same (linear (whole n ∷ whole (floor n d) ∷ whole d ∷ []) _ _ (search reads depth 12)
       (fact (whole (pos 1)) (≈_trans (≈_sym (whole_mul (floor n d) d)) (whole_same e)) (search reads depth 12) no_fact) tt) (within_whole (pos 0)))
 
   -- and exact where there is no remainder
-  pub left_over : (n : ℤ) → IsWithin (whole (pos (remainder d n)) *Q divisor_size) (whole n -Q whole (floor n d) *Q whole d)
+  pub left_over : (n : ℤ) → HasSize (whole (pos (remainder d n)) *Q divisor_size) (whole n -Q whole (floor n d) *Q whole d)
   left_over n = by (int_eq (floor n d *ℤ d) n) (signed_Decides (floor n d *ℤ d) n).0
     where
-      by : (b : Bool) → (b ≡ true → floor n d *ℤ d ≡ n) → IsWithin (whole (pos (cond (not b) 1 0)) *Q divisor_size) (whole n -Q whole (floor n d) *Q whole d)
+      by : (b : Bool) → (b ≡ true → floor n d *ℤ d ≡ n) → HasSize (whole (pos (cond (not b) 1 0)) *Q divisor_size) (whole n -Q whole (floor n d) *Q whole d)
       by true h = exact n (h refl)
       by false h = within_to (by_ring (divisor_size ∷ []) _ _ (search reads depth 12) tt) (floor_off n)
 
   -- what the quotients of a list leave
   pub swing-left_over : (s : Symbols) (ns : List ℤ) (i : ℕ)
-      → IsWithin (whole (pos (remainders d ns)) *Q divisor_size) (swing ns s i -Q swing (quotients d ns) s i *Q whole d)
+      → HasSize (whole (pos (remainders d ns)) *Q divisor_size) (swing ns s i -Q swing (quotients d ns) s i *Q whole d)
   swing-left_over s [] i = within_to (by_ring (divisor_size ∷ []) _ _ (search reads depth 12) tt) (within_same (by_ring (whole d ∷ []) _ _ (search reads depth 12) tt) (within_zero 0))
   swing-left_over s (n ∷ ns) i =
       let R = whole (pos (remainder d n)) in
@@ -105,25 +105,25 @@ module _ (d : ℤ) (nonzero : d ≡ pos 0 → ⊥) where
   divisor_size_pos = lt_whole (size_pos d nonzero)
 
   -- what is within r is within r over the divisor, rounded up, times the divisor
-  pub within_div_ceil : (r : ℕ) (x : Frac) → IsWithin (whole (pos r)) x → IsWithin (whole (pos (div_ceil r (unsigned_abs d))) *Q divisor_size) x
+  pub within_div_ceil : (r : ℕ) (x : Frac) → HasSize (whole (pos r)) x → HasSize (whole (pos (div_ceil r (unsigned_abs d))) *Q divisor_size) x
   within_div_ceil r x h = let l = size_pos d nonzero in within_more (div_ceil-times r (unsigned_abs d) (omega (arith, ints))) h
 
   -- the size of the divisor cancels
-  pub within_over : (p x : Frac) → IsWithin (p *Q divisor_size) (x *Q whole d) → IsWithin p x
-  within_over p x h = by_lt_z {P = IsWithin p x} d (pos 0) below above
+  pub within_over : (p x : Frac) → HasSize (p *Q divisor_size) (x *Q whole d) → HasSize p x
+  within_over p x h = by_lt_z {P = HasSize p x} d (pos 0) below above
     where
-      above : pos 0 ≤ℤ d → IsWithin p x
+      above : pos 0 ≤ℤ d → HasSize p x
       above g = within_cancel divisor_size divisor_size_pos (within_same (Q-IsRing.mul_same (Q-IsRing.refl x) (whole_same (omega (arith, ints)))) h)
 
-      below : d <ℤ pos 0 → IsWithin p x
+      below : d <ℤ pos 0 → HasSize p x
       below g =
           let turned : whole d ≈ neg_Q divisor_size = ≈_trans (whole_same (omega (arith, ints))) (whole_neg (pos (unsigned_abs d))) in
           within_cancel divisor_size divisor_size_pos
           (within_same (linear (x ∷ divisor_size ∷ whole d ∷ []) _ _ (search reads depth 12) (name turned (search reads depth 12) no_fact) tt) (within_neg h))
 
   -- where x d is within r d of n and a list's swing, x is within r and the quotients' remainders of the form of the quotients
-  pub divided-law : (s : Symbols) (n : ℤ) (ns : List ℤ) (r : ℕ) (x : Frac) → IsWithin (whole (pos r) *Q divisor_size) (x *Q whole d -Q (whole n +Q swing ns s 0))
-      → IsWithin (whole (pos (divided d n ns r).radius)) (x -Q aim (divided d n ns r) s)
+  pub divided-law : (s : Symbols) (n : ℤ) (ns : List ℤ) (r : ℕ) (x : Frac) → HasSize (whole (pos r) *Q divisor_size) (x *Q whole d -Q (whole n +Q swing ns s 0))
+      → HasSize (whole (pos (divided d n ns r).radius)) (x -Q aim (divided d n ns r) s)
   divided-law s n ns r x h =
       let R = whole (pos (remainder d n)) in
       let M = whole (pos (remainders d ns)) in

@@ -4,15 +4,15 @@ use Rattle.std.specs.Prelude.{ℤ, pos, ◌+ℤ◌, if◌then◌else◌, unsigne
 use Rattle.fixdec.specs.Form.{LinearForm, dev, kept, lin_hull, moved, sizes}
 use Rattle.fixdec.specs.FormMember.{IsFormMember, swing}
 use Rattle.fixdec.specs.Frac.{Frac, ◌≈◌, ◌+Q◌, ◌*Q◌, ◌-Q◌, whole}
-use Rattle.fixdec.specs.FracLaws.{≈_sym}
+use Rattle.fixdec.specs.Algebra.FracLaws.{≈_sym}
 use Rattle.fixdec.specs.Interval.{fits_cap}
-use Rattle.fixdec.specs.Linear.{by_ring, linear, linear_le, fact, name, order, no_fact, reads}
+use Rattle.fixdec.specs.Algebra.Linear.{by_ring, linear, linear_le, fact, name, order, no_fact, reads}
 use Rattle.fixdec.specs.Member.{IsMember, Symbols, units}
-use Rattle.fixdec.specs.OrderLaws.{le_same_left, le_same_right, whole_add, whole_sub, zero_le_one}
+use Rattle.fixdec.specs.Algebra.OrderLaws.{le_same_left, le_same_right, whole_add, whole_sub, zero_le_one}
 use Rattle.fixdec.specs.Steps.{OnVal}
 use Rattle.fixdec.specs.declared.step.Step.TheVariants.{Val, Lost}
 use Rattle.fixdec.specs.declared.step.Why.TheVariants.{Range}
-use Rattle.fixdec.specs.Within.{IsWithin, within_add, within_same, within_to}
+use Rattle.fixdec.specs.Algebra.Within.{HasSize, within_add, within_same, within_to}
 use Rattle.forms.specs.Swings.{swing-within}
 
 -- what a form says of its members: the centre and the swing of the coefficients
@@ -31,13 +31,13 @@ on_kept f P h = elim (fits_cap (pos (unsigned_abs f.centre + dev f))) as (λ b. 
 
 module _ (scale : ℕ) (f : LinearForm) (s : Symbols) where
   -- a member differs from the aim by at most the radius, and what differs so is a member
-  pub member-within : (v : Frac) → IsFormMember scale f s v → IsWithin (whole (pos f.radius)) (v *Q units scale -Q aim f s)
+  pub member-within : (v : Frac) → IsFormMember scale f s v → HasSize (whole (pos f.radius)) (v *Q units scale -Q aim f s)
   member-within v p = record {
     above = p.above;
     below = linear_le (v ∷ units scale ∷ aim f s ∷ whole (pos f.radius) ∷ []) _ _ (search reads depth 12) (order zero_le_one p.below (search reads depth 12) no_fact) tt;
   }
 
-  pub member-from : (v : Frac) → IsWithin (whole (pos f.radius)) (v *Q units scale -Q aim f s) → IsFormMember scale f s v
+  pub member-from : (v : Frac) → HasSize (whole (pos f.radius)) (v *Q units scale -Q aim f s) → IsFormMember scale f s v
   member-from v p = record {
     above = p.above;
     below = linear_le (v ∷ units scale ∷ aim f s ∷ whole (pos f.radius) ∷ []) _ _ (search reads depth 12) (order zero_le_one p.below (search reads depth 12) no_fact) tt;
@@ -51,7 +51,7 @@ module _ (scale : ℕ) (f : LinearForm) (s : Symbols) where
       (member-within u p))
 
   -- it differs from the centre by at most the deviation
-  pub member-dev : (v : Frac) → IsFormMember scale f s v → IsWithin (whole (pos (dev f))) (v *Q units scale -Q whole f.centre)
+  pub member-dev : (v : Frac) → IsFormMember scale f s v → HasSize (whole (pos (dev f))) (v *Q units scale -Q whole f.centre)
   member-dev v p =
       within_to (≈_sym (whole_add (pos (sizes f.coefficients)) (pos f.radius)))
       (within_same (by_ring (v ∷ units scale ∷ whole f.centre ∷ swing f.coefficients s 0 ∷ []) _ _ (search reads depth 12) tt)

@@ -7,12 +7,12 @@ use Rattle.fixdec.specs.Form.{LinearForm, beside, dev, divided, lin_times, mixed
 use Rattle.fixdec.specs.FormMember.{IsFormMember, swing}
 use Rattle.fixdec.specs.Frac.{Frac, ◌≈◌, ◌+Q◌, ◌*Q◌, ◌-Q◌, whole}
 use Rattle.fixdec.specs.Interval.{unit}
-use Rattle.fixdec.specs.Linear.{linear, name, no_fact, reads}
+use Rattle.fixdec.specs.Algebra.Linear.{linear, name, no_fact, reads}
 use Rattle.fixdec.specs.Member.{Symbols, units}
-use Rattle.fixdec.specs.MemberLaws.{unit_pos}
-use Rattle.fixdec.specs.OrderLaws.{whole_add, whole_mul}
+use Rattle.fixdec.specs.Algebra.MemberLaws.{unit_pos}
+use Rattle.fixdec.specs.Algebra.OrderLaws.{whole_add, whole_mul}
 use Rattle.fixdec.specs.Steps.{OnVal}
-use Rattle.fixdec.specs.Within.{IsWithin, within_add, within_mul, within_same, within_to, within_whole}
+use Rattle.fixdec.specs.Algebra.Within.{HasSize, within_add, within_mul, within_same, within_to, within_whole}
 use Rattle.forms.specs.Divided.{divided-law, within_div_ceil}
 use Rattle.forms.specs.FormMembers.{aim, member-dev, member-from, member-within, on_kept}
 use Rattle.forms.specs.Swings.{swing-combined}
@@ -44,7 +44,7 @@ module _ (scale : ℕ) (s : Symbols) where
             (name (whole_mul a.centre l) (search reads depth 12) (name (whole_mul b.centre k) (search reads depth 12) no_fact))) tt
 
     -- what the product has beside the centres' product and the mixed swing
-    beside-within : IsWithin (whole (pos (beside a b))) (ca *Q (v *Q U -Q aim b s) +Q cb *Q (u *Q U -Q aim a s) +Q (u *Q U -Q ca) *Q (v *Q U -Q cb))
+    beside-within : HasSize (whole (pos (beside a b))) (ca *Q (v *Q U -Q aim b s) +Q cb *Q (u *Q U -Q aim a s) +Q (u *Q U -Q ca) *Q (v *Q U -Q cb))
     beside-within =
         let x = within_mul (within_whole a.centre) (member-within scale b s v q) in
         let y = within_mul (within_whole b.centre) (member-within scale a s u p) in

@@ -5,12 +5,12 @@ use Rattle.std.specs.Prelude.{ℤ, pos, ◌*ℤ◌, unsigned_abs}
 use Rattle.fixdec.specs.Form.{LinearForm, combined, dev, left, sizes}
 use Rattle.fixdec.specs.FormMember.{IsFormMember, swing}
 use Rattle.fixdec.specs.Frac.{Frac, ◌≈◌, ◌+Q◌, ◌*Q◌, ◌-Q◌, neg_Q, whole}
-use Rattle.fixdec.specs.FracLaws.{≈_sym}
+use Rattle.fixdec.specs.Algebra.FracLaws.{≈_sym}
 use Rattle.fixdec.specs.Interval.{unit}
-use Rattle.fixdec.specs.Linear.{linear, name, no_fact, reads}
+use Rattle.fixdec.specs.Algebra.Linear.{linear, name, no_fact, reads}
 use Rattle.fixdec.specs.Member.{Symbols, units}
-use Rattle.fixdec.specs.OrderLaws.{whole_add, whole_mul, whole_sub}
-use Rattle.fixdec.specs.Within.{IsWithin, within_add, within_mul, within_sub, within_to, within_whole}
+use Rattle.fixdec.specs.Algebra.OrderLaws.{whole_add, whole_mul, whole_sub}
+use Rattle.fixdec.specs.Algebra.Within.{HasSize, within_add, within_mul, within_sub, within_to, within_whole}
 use Rattle.forms.specs.FormMembers.{aim, member-within, member-dev}
 use Rattle.forms.specs.Leftovers.{far_cancel, far_from, quotient_left}
 use Rattle.forms.specs.Swings.{swing-combined, swing-within}
@@ -76,7 +76,7 @@ module _ (scale : ℕ) (g : ℤ) (s : Symbols) (a b : LinearForm) (u v q : Frac)
       (name (swing-combined s (left scale g) U (neg_Q (whole g)) (left_is scale g) a.coefficients b.coefficients 0) (search reads depth 20 fits 20000)
       no_fact))) tt
 
-  error_within : IsWithin (whole (pos radius)) error
+  error_within : HasSize (whole (pos radius)) error
   error_within =
       let k = unsigned_abs g in
       let m = a.radius * 10 ^ scale in
@@ -89,7 +89,7 @@ module _ (scale : ℕ) (g : ℤ) (s : Symbols) (a b : LinearForm) (u v q : Frac)
       (name (whole_mul (pos k) (pos b.radius)) (search reads depth 12) no_fact))) tt)
       (within_sub (within_mul (member-within scale a s u p) (within_whole (unit scale))) (within_mul (within_whole g) (member-within scale b s v r)))
 
-  left_within : IsWithin (whole (pos (unsigned_abs centre + sizes coefficients + radius))) ((whole centre +Q Sl) +Q error)
+  left_within : HasSize (whole (pos (unsigned_abs centre + sizes coefficients + radius))) ((whole centre +Q Sl) +Q error)
   left_within =
       let m = unsigned_abs centre in
       let n = sizes coefficients in
@@ -100,12 +100,12 @@ module _ (scale : ℕ) (g : ℤ) (s : Symbols) (a b : LinearForm) (u v q : Frac)
 
   module _ (h : dev b < unsigned_abs b.centre) where
     -- the quotient lies within the reach of the first one
-    near : IsWithin (whole (pos (reach scale g a b))) (q *Q U -Q whole g)
+    near : HasSize (whole (pos (reach scale g a b))) (q *Q U -Q whole g)
     near =
         far_cancel _ _ _ (v *Q U) _ (omega arith) (far_from b.centre (dev b) (v *Q U) h (member-dev scale b s v r)) product left_within
 
     -- the quotient less the first one, times the divisor's centre, differs from what the first one leaves by the radius of that,
     -- and by how far the quotient and the divisor may lie from the first quotient and from the centre
-    pub quotient_left_law : IsWithin (whole (pos radius) +Q whole (pos (reach scale g a b * dev b)))
+    pub quotient_left_law : HasSize (whole (pos radius) +Q whole (pos (reach scale g a b * dev b)))
         ((q *Q U -Q whole g) *Q whole b.centre -Q (whole centre +Q Sl))
     quotient_left_law = quotient_left _ (v *Q U) (whole b.centre) _ error _ _ _ product near (member-dev scale b s v r) error_within

@@ -9,7 +9,7 @@ use Rattle.fixdec.specs.FormMember.{IsFormMember}
 use Rattle.fixdec.specs.Frac.{Frac, ◌≤Q◌, ◌*Q◌, whole}
 use Rattle.fixdec.specs.Interval.{iv_root}
 use Rattle.fixdec.specs.Member.{IsMember, Symbols}
-use Rattle.fixdec.specs.Roots.{holds_square}
+use Rattle.fixdec.specs.Algebra.Roots.{holds_square}
 use Rattle.fixdec.specs.Steps.{◌>>=◌, OnVal, OnVal-then}
 use Rattle.fixdec.specs.declared.step.Step.{Step}
 use Rattle.fixdec.specs.declared.step.Step.TheVariants.{Val, Empty}

@@ -7,15 +7,16 @@ use Rattle.std.specs.Prelude.{ℤ, pos, negsuc, ◌-ℤ◌, ◌*ℤ◌, ◌<ℤ�
 use Rattle.fixdec.specs.Form.{LinearForm, lin_hull, root_above}
 use Rattle.fixdec.specs.FormMember.{IsFormMember, swing}
 use Rattle.fixdec.specs.Frac.{Frac, ◌≈◌, ◌≤Q◌, ◌+Q◌, ◌*Q◌, ◌-Q◌, whole}
-use Rattle.fixdec.specs.FracLaws.{≈_sym}
+use Rattle.fixdec.specs.Algebra.FracLaws.{≈_sym}
 use Rattle.fixdec.specs.Interval.{unit}
-use Rattle.fixdec.specs.Linear.{linear, linear_le, name, order, no_fact, reads}
+use Rattle.fixdec.specs.Algebra.Linear.{linear, linear_le, name, order, no_fact, reads}
 use Rattle.fixdec.specs.Member.{IsMember, Symbols, units}
-use Rattle.fixdec.specs.Order.{le_whole}
-use Rattle.fixdec.specs.OrderLaws.{le_same_right, whole_add, whole_mul, whole_sub, zero_le_one}
-use Rattle.fixdec.specs.Root.{root, root_up_by, root_is, root_up_by_is, root_greatest}
-use Rattle.fixdec.specs.Roots.{IsAboveRoot, IsBelowRoot, root_law}
-use Rattle.fixdec.specs.Within.{IsWithin, within_mul, within_same, within_to, within_whole}
+use Rattle.fixdec.specs.Algebra.Order.{le_whole}
+use Rattle.fixdec.specs.Algebra.OrderLaws.{le_same_right, whole_add, whole_mul, whole_sub, zero_le_one}
+use Rattle.fixdec.specs.Root.{root, root_up_by}
+use Rattle.fixdec.specs.Algebra.RootLaws.{root_is, root_up_by_is, root_greatest}
+use Rattle.fixdec.specs.Algebra.Roots.{IsAboveRoot, IsBelowRoot, root_law}
+use Rattle.fixdec.specs.Algebra.Within.{HasSize, within_mul, within_same, within_to, within_whole}
 use Rattle.forms.specs.Corrections.{corrected_law}
 use Rattle.forms.specs.FormMembers.{aim, member-hull, member-within}
 use Rattle.forms.specs.Leftovers.{root_left}
@@ -39,7 +40,7 @@ root_some scale (pos n) h =
 root_some scale (negsuc n) h = absurd (omega (arith, ints))
 
 -- what lies between l and h is within the greater distance of these from g
-between-within : (g l h : ℕ) (z : Frac) → whole (pos l) ≤Q z → z ≤Q whole (pos h) → IsWithin (whole (pos (max (g - l) (h - g)))) (z -Q whole (pos g))
+between-within : (g l h : ℕ) (z : Frac) → whole (pos l) ≤Q z → z ≤Q whole (pos h) → HasSize (whole (pos (max (g - l) (h - g)))) (z -Q whole (pos g))
 between-within g l h z low high =
     let x = max (g - l) (h - g) in
     let a : whole (pos g) ≤Q whole (pos l) +Q whole (pos x) = le_same_right (le_whole (omega (arith, ints))) (whole_add (pos l) (pos x)) in
@@ -85,7 +86,7 @@ module _ (scale : ℕ) (s : Symbols) (a : LinearForm) (u : Frac) (above : pos 0 
       nn (member-hull scale a s (u *Q u) p)
 
   -- the root lies within the reach of the first one
-  near : IsWithin (whole (pos reach)) (u *Q U -Q whole (pos first))
+  near : HasSize (whole (pos reach)) (u *Q U -Q whole (pos first))
   near = between-within first least greatest (u *Q U) between.low between.high
 
   -- what the first root leaves of the centre, of the coefficients and of the radius
@@ -119,12 +120,12 @@ module _ (scale : ℕ) (s : Symbols) (a : LinearForm) (u : Frac) (above : pos 0 
       (name (scaled scale a.centre) (search reads depth 20 fits 4000)
       (name (swing-map s (λ k. k *ℤ unit scale) U (scaled scale) a.coefficients 0) (search reads depth 20 fits 4000) no_fact)))) tt
 
-  error_within : IsWithin (whole (pos left_radius)) error
+  error_within : HasSize (whole (pos left_radius)) error
   error_within = within_to (≈_sym (whole_mul (pos a.radius) (unit scale))) (within_mul (member-within scale a s (u *Q u) p) (within_whole (unit scale)))
 
   -- the root less the first one, times twice the first, differs from what the first one leaves by the radius of that, and by the
   -- square of how far the root may lie from the first one
-  left_law : IsWithin (whole (pos left_radius) +Q whole (pos (reach * reach)))
+  left_law : HasSize (whole (pos left_radius) +Q whole (pos (reach * reach)))
       ((u *Q U -Q whole (pos first)) *Q whole (pos (2 * first)) -Q (whole left_centre +Q Sl))
   left_law =
       within_same

@@ -7,13 +7,13 @@ use Rattle.std.specs.Prelude.{ℤ, pos, negsuc, ◌*ℤ◌, int_lt}
 use Rattle.fixdec.specs.Form.{LinearForm, divided, kept, lin_shift, multiplied}
 use Rattle.fixdec.specs.FormMember.{IsFormMember, swing}
 use Rattle.fixdec.specs.Frac.{Frac, ◌≈◌, ◌*Q◌, ◌-Q◌, whole}
-use Rattle.fixdec.specs.FracLaws.{≈_sym}
-use Rattle.fixdec.specs.Linear.{linear, fact, name, no_fact, reads}
+use Rattle.fixdec.specs.Algebra.FracLaws.{≈_sym}
+use Rattle.fixdec.specs.Algebra.Linear.{linear, fact, name, no_fact, reads}
 use Rattle.fixdec.specs.Member.{IsShifted, Symbols, units}
-use Rattle.fixdec.specs.MemberLaws.{unit_pos}
-use Rattle.fixdec.specs.OrderLaws.{whole_mul}
+use Rattle.fixdec.specs.Algebra.MemberLaws.{unit_pos}
+use Rattle.fixdec.specs.Algebra.OrderLaws.{whole_mul}
 use Rattle.fixdec.specs.Steps.{OnVal}
-use Rattle.fixdec.specs.Within.{within_mul, within_same, within_to, within_whole}
+use Rattle.fixdec.specs.Algebra.Within.{within_mul, within_same, within_to, within_whole}
 use Rattle.forms.specs.Divided.{divided-law, within_div_ceil}
 use Rattle.forms.specs.FormMembers.{aim, member-from, member-within, on_kept}
 use Rattle.forms.specs.Swings.{swing-map}

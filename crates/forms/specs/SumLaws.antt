@@ -7,15 +7,15 @@ use Rattle.fixdec.specs.Ends.{Ends}
 use Rattle.fixdec.specs.Form.{LinearForm, added_at, combined, lin_clip, lin_hull, lin_minus, lin_of_span, lin_plus, lin_symbol, lin_widen}
 use Rattle.fixdec.specs.FormMember.{IsFormMember, swing}
 use Rattle.fixdec.specs.Frac.{Frac, ◌≈◌, ◌+Q◌, ◌*Q◌, ◌-Q◌, neg_Q, whole}
-use Rattle.fixdec.specs.FracLaws.{≈_sym}
-use Rattle.fixdec.specs.Linear.{by_ring, linear, linear_le, name, order, no_fact, reads}
+use Rattle.fixdec.specs.Algebra.FracLaws.{≈_sym}
+use Rattle.fixdec.specs.Algebra.Linear.{by_ring, linear, linear_le, name, order, no_fact, reads}
 use Rattle.fixdec.specs.Member.{IsMember, IsNear, Symbols, units}
-use Rattle.fixdec.specs.MemberLaws.{clip_meets}
-use Rattle.fixdec.specs.Order.{le_whole}
-use Rattle.fixdec.specs.OrderLaws.{le_same_left, whole_add, whole_sub, zero_le_one}
+use Rattle.fixdec.specs.Algebra.MemberLaws.{clip_meets}
+use Rattle.fixdec.specs.Algebra.Order.{le_whole}
+use Rattle.fixdec.specs.Algebra.OrderLaws.{le_same_left, whole_add, whole_sub, zero_le_one}
 use Rattle.fixdec.specs.Steps.{OnVal}
 use Rattle.fixdec.specs.declared.step.Step.TheVariants.{Val, Empty}
-use Rattle.fixdec.specs.Within.{IsWithin, within_add, within_more, within_mul, within_same, within_sub, within_to, within_whole}
+use Rattle.fixdec.specs.Algebra.Within.{HasSize, within_add, within_more, within_mul, within_same, within_sub, within_to, within_whole}
 use Rattle.forms.specs.FormMembers.{aim, member-from, member-hull, member-within, on_kept}
 use Rattle.forms.specs.Swings.{symbol-within, swing-added_at, swing-combined, swing-zeros}
 
@@ -24,7 +24,7 @@ module _ (scale : ℕ) (s : Symbols) where
   U = units scale
 
   -- a number between two ends is within the greater of their distances of each number
-  between : (a : Ends) (c : ℤ) (r : ℕ) (v : Frac) → IsMember scale a v → (a.hi -ℤ c) ≤ℤ pos r → (c -ℤ a.lo) ≤ℤ pos r → IsWithin (whole (pos r)) (v *Q U -Q whole c)
+  between : (a : Ends) (c : ℤ) (r : ℕ) (v : Frac) → IsMember scale a v → (a.hi -ℤ c) ≤ℤ pos r → (c -ℤ a.lo) ≤ℤ pos r → HasSize (whole (pos r)) (v *Q U -Q whole c)
   between a c r v p above below =
       let h = le_same_left (≈_sym (whole_sub a.hi c)) (le_whole above) in
       let l = le_same_left (≈_sym (whole_sub c a.lo)) (le_whole below) in
@@ -100,7 +100,7 @@ module _ (scale : ℕ) (s : Symbols) where
   unfolding lin_widen
   lin_widen-encloses a e u v p n =
       let f : LinearForm = record a { radius = a.radius + unsigned_abs e } in
-      let near : IsWithin (whole e) (v *Q U -Q u *Q U) = record {
+      let near : HasSize (whole e) (v *Q U -Q u *Q U) = record {
         above = le_same_left (by_ring (u ∷ v ∷ U ∷ []) _ _ (search reads depth 12) tt) n.above;
         below = linear_le (u ∷ v ∷ U ∷ whole e ∷ []) _ _ (search reads depth 12) (order zero_le_one n.below (search reads depth 12) no_fact) tt;
       } in

@@ -5,24 +5,24 @@ use Rattle.std.proofs.lemmas.List.Sums.{sum_by-cons}
 use Rattle.fixdec.specs.Form.{added_at, combined, sizes}
 use Rattle.fixdec.specs.FormMember.{swing}
 use Rattle.fixdec.specs.Frac.{Frac, ◌≈◌, ◌+Q◌, ◌*Q◌, neg_Q, whole}
-use Rattle.fixdec.specs.FracLaws.{≈_refl, ≈_trans}
-use Rattle.fixdec.specs.Linear.{by_ring, linear, name, no_fact, reads}
+use Rattle.fixdec.specs.Algebra.FracLaws.{≈_refl, ≈_trans}
+use Rattle.fixdec.specs.Algebra.Linear.{by_ring, linear, name, no_fact, reads}
 use Rattle.fixdec.specs.Member.{Symbols}
-use Rattle.fixdec.specs.OrderLaws.{whole_add, whole_same}
-use Rattle.fixdec.specs.Within.{IsWithin, within_add, within_mul, within_to, within_whole}
+use Rattle.fixdec.specs.Algebra.OrderLaws.{whole_add, whole_same}
+use Rattle.fixdec.specs.Algebra.Within.{HasSize, within_add, within_mul, within_to, within_whole}
 
 -- the sizes of one more coefficient
 pub sizes_more : (k : ℤ) (ks : List ℤ) → whole (pos (sizes (k ∷ ks))) ≈ whole (pos (unsigned_abs k)) +Q whole (pos (sizes ks))
 sizes_more k ks = ≈_trans (whole_same (ap pos (sum_by-cons unsigned_abs k ks))) (whole_add (pos (unsigned_abs k)) (pos (sizes ks)))
 
 -- a symbol is within 1
-pub symbol-within : (s : Symbols) (i : ℕ) → IsWithin (whole (pos 1)) (s.at i)
+pub symbol-within : (s : Symbols) (i : ℕ) → HasSize (whole (pos 1)) (s.at i)
 unfolding whole neg_Q
 symbol-within s i = record { above = s.high i; below = s.low i }
 
 module _ (s : Symbols) where
   -- a swing is within the sum of the sizes
-  pub swing-within : (ks : List ℤ) (i : ℕ) → IsWithin (whole (pos (sizes ks))) (swing ks s i)
+  pub swing-within : (ks : List ℤ) (i : ℕ) → HasSize (whole (pos (sizes ks))) (swing ks s i)
   swing-within [] i = within_whole (pos 0)
   swing-within (k ∷ ks) i =
       within_to

@@ -4,8 +4,8 @@ use Rattle.std.specs.Map.{lookup}
 use Rattle.std.proofs.Common.{ap}
 use lib.Pointwise.{pointwise}
 use Rattle.arrayvec.specs.ArrayVec.{ArrayVec}
-use Rattle.lensmodel.specs.Catalogue.{find_glass}
-use Rattle.lensmodel.specs.Media.{upper}
+use Rattle.lensmodel.specs.Files.Catalogue.{find_glass}
+use Rattle.lensmodel.specs.Setup.Media.{upper}
 use Rattle.lensmodel.specs.declared.glass.Glass.{Glass}
 
 -- a name in upper case

@@ -3,8 +3,8 @@
 ghost use Rattle.std.specs.Prelude.{◌≡◌, ◌++◌, ◌<◌, [], ◌∷◌, List, Option, None, Some, IsTrue, IfOk, OnOk, OnErr, ◌↔◌, length, slice_get, map, if◌then◌else◌};
 ghost use Rattle.std.specs.Option.{option_copied};
 ghost use Rattle.std.specs.Map.{lookup};
-ghost use Rattle.lensmodel.specs.Catalogue.{find_glass};
-ghost use Rattle.lensmodel.specs.Media.{upper};
+ghost use Rattle.lensmodel.specs.Files.Catalogue.{find_glass};
+ghost use Rattle.lensmodel.specs.Setup.Media.{upper};
 ghost use Rattle.lensmodel.specs.declared.glass.Glass.{Glass as GlassValue};
 ghost use Rattle.glassbook.specs.Keys.{IsKeyed, glasses_of, same_key};
 

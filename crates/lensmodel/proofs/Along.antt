@@ -3,12 +3,12 @@ use Rattle.std.proofs.Common.{ℕ, suc, true, false, List, [], ◌∷◌}
 use Rattle.std.specs.Prelude.{Bool, Option, Some, None}
 use Rattle.fixdec.specs.Decimal.{Decimal}
 use Rattle.fixdec.specs.Frac.{Frac, ◌≈◌, ◌+Q◌, ◌-Q◌, ◌*Q◌}
-use Rattle.fixdec.specs.FracLaws.{Q-IsRing, ≈_refl, ≈_sym, ≈_trans}
-use Rattle.fixdec.specs.OrderLaws.{le_along, le_same_left, lt_along}
-use Rattle.lensmodel.specs.Chains.{IsInside}
-use Rattle.lensmodel.specs.Dispersion.{IsIndex}
-use Rattle.lensmodel.specs.Residual.{IsWithin}
-use Rattle.lensmodel.specs.Values.{even_terms, slope_terms}
+use Rattle.fixdec.specs.Algebra.FracLaws.{Q-IsRing, ≈_refl, ≈_sym, ≈_trans}
+use Rattle.fixdec.specs.Algebra.OrderLaws.{le_along, le_same_left, lt_along}
+use Rattle.lensmodel.specs.Equations.Chains.{IsInside}
+use Rattle.lensmodel.specs.Equations.Dispersion.{IsIndex}
+use Rattle.lensmodel.specs.Equations.Residual.{IsWithin}
+use Rattle.lensmodel.specs.Setup.Values.{even_terms, slope_terms}
 use Rattle.lensmodel.specs.declared.glass.Medium.{Medium}
 use Rattle.lensmodel.specs.declared.glass.Medium.TheVariants.{Air, Of}
 

@@ -3,14 +3,14 @@ use Rattle.std.proofs.Common.{ℕ, zero, suc, ◌<◌, refl, arith}
 use Rattle.std.specs.Prelude.{pos}
 use Rattle.fixdec.specs.Frac.{◌+Q◌, ◌*Q◌, ◌-Q◌, neg_Q, whole}
 use Rattle.fixdec.specs.Member.{Symbols}
-use Rattle.lensmodel.specs.Bending.{Bends}
-use Rattle.lensmodel.specs.Chains.{IsWhole}
-use Rattle.lensmodel.specs.Claims.{HoldsPlace, HoldsHeading}
-use Rattle.lensmodel.specs.Crossing.{Transfers, Crosses}
-use Rattle.lensmodel.specs.Dispersion.{IsIndex, IsFormula}
-use Rattle.lensmodel.specs.Media.{medium_at}
-use Rattle.lensmodel.specs.Start.{Starts}
-use Rattle.lensmodel.specs.Values.{eps, owner}
+use Rattle.lensmodel.specs.Equations.Bending.{Bends}
+use Rattle.lensmodel.specs.Equations.Chains.{IsWhole}
+use Rattle.lensmodel.specs.Claims.RowClaims.{HoldsPlace, HoldsHeading}
+use Rattle.lensmodel.specs.Equations.Crossing.{Transfers, Crosses}
+use Rattle.lensmodel.specs.Equations.Dispersion.{IsIndex, IsFormula}
+use Rattle.lensmodel.specs.Setup.Media.{medium_at}
+use Rattle.lensmodel.specs.Equations.Start.{Starts}
+use Rattle.lensmodel.specs.Setup.Values.{eps, owner}
 use Rattle.lensmodel.specs.Worked.{flat_glass, sphere_setup, axis_ray}
 use Rattle.lensmodel.specs.WorkedChains.{axis_chain}
 use Rattle.lensmodel.specs.WorkedRow.{axis_vertex, axis_heading, axis_image}

@@ -3,19 +3,19 @@ use Rattle.std.proofs.Common.{ℕ, zero, suc, ◌<◌, refl, arith}
 use Rattle.std.specs.Prelude.{pos}
 use Rattle.fixdec.specs.Frac.{◌≈◌, ◌+Q◌, ◌*Q◌, ◌-Q◌, neg_Q, whole}
 use Rattle.fixdec.specs.Member.{Symbols}
-use Rattle.lensmodel.specs.Bending.{Bends}
-use Rattle.lensmodel.specs.Chains.{IsWhole}
-use Rattle.lensmodel.specs.Crossing.{Transfers, Crosses}
-use Rattle.lensmodel.specs.Dispersion.{IsIndex}
-use Rattle.lensmodel.specs.Media.{medium_at}
-use Rattle.lensmodel.specs.Start.{Starts}
-use Rattle.lensmodel.specs.Values.{surface_at, eps, owner}
+use Rattle.lensmodel.specs.Equations.Bending.{Bends}
+use Rattle.lensmodel.specs.Equations.Chains.{IsWhole}
+use Rattle.lensmodel.specs.Equations.Crossing.{Transfers, Crosses}
+use Rattle.lensmodel.specs.Equations.Dispersion.{IsIndex}
+use Rattle.lensmodel.specs.Setup.Media.{medium_at}
+use Rattle.lensmodel.specs.Equations.Start.{Starts}
+use Rattle.lensmodel.specs.Setup.Values.{surface_at, eps, owner}
 use Rattle.lensmodel.proofs.Concrete.{same, at_most, less_than, near}
 use Rattle.lensmodel.specs.Worked.{bowl_setup, bowl_ray}
 use Rattle.lensmodel.specs.WorkedChains.{bowl_near, bowl_far, digits}
 use Rattle.fixdec.specs.Scaled.{dec_ceil}
 use Rattle.fixdec.specs.Zone.{zone}
-use Rattle.lensmodel.specs.Crossing.{zone_of}
+use Rattle.lensmodel.specs.Equations.Crossing.{zone_of}
 
 module _ (symbols : Symbols) where
   starts_near : Starts bowl_setup bowl_ray (bowl_near symbols)

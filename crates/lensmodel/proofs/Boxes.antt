@@ -2,10 +2,10 @@
 use Rattle.std.proofs.Common.{◌≡◌, ℕ, sym, subst}
 use Rattle.std.specs.Prelude.{pos, None}
 use Rattle.fixdec.specs.Frac.{Frac, ◌≈◌, ◌+Q◌, whole}
-use Rattle.fixdec.specs.FracLaws.{Q-IsRing, ≈_refl, ≈_trans}
+use Rattle.fixdec.specs.Algebra.FracLaws.{Q-IsRing, ≈_refl, ≈_trans}
 use Rattle.fixdec.specs.Member.{Symbols}
 use Rattle.lensmodel.specs.ChainLaws.{CurvatureWritten, DistanceWritten, IndexWritten}
-use Rattle.lensmodel.specs.Values.{deviation, deviation_from, tolerances}
+use Rattle.lensmodel.specs.Setup.Values.{deviation, deviation_from, tolerances}
 use Rattle.lensmodel.specs.declared.setup.Setup.{Setup}
 use Rattle.lensmodel.specs.declared.tolerance.TolKind.{TolKind}
 

@@ -6,8 +6,8 @@ use Rattle.fixdec.specs.Zone.{zone, norm, least_power}
 use Rattle.lensmodel.specs.ComputedAspheres.{SphericalHeight, BentHeight, PastZone, AtZone, BowlLost, BowlRoot, BowlAsConic, spherical, bent, bowl, paraboloid, steep_ray, asphere_setup}
 use Rattle.lensmodel.specs.ComputedRows.{ones, tenths}
 use Rattle.lensmodel.specs.Worked.{level_ray}
-use Rattle.lensmodel.specs.SagRows.{sag_rows}
-use Rattle.lensmodel.specs.SlopeRounds.{round_rows}
+use Rattle.lensmodel.specs.Rows.Sag.{sag_rows}
+use Rattle.lensmodel.specs.Rows.SlopeRounds.{round_rows}
 use Rattle.lensmodel.proofs.ComputedRows.{opened, row_by_trying}
 use Rattle.lensmodel.proofs.TriedCells.{asphere_by_trying, asphere_row_by_trying}
 

@@ -10,9 +10,9 @@ use Rattle.fixdec.specs.declared.step.Step.{Step}
 use Rattle.lensmodel.specs.ComputedBoxes.{ThicknessBox, PlateBox, FlatIndex, CrownIndex, HeavyIndex, boxed, plate_setup, crown_glass, heavy_glass}
 use Rattle.lensmodel.specs.ComputedForms.{row_in_forms}
 use Rattle.lensmodel.specs.ComputedRows.{ones, tenths}
-use Rattle.lensmodel.specs.Constants.{residual_units}
-use Rattle.lensmodel.specs.Outcome.{Outcome, outcome_at, row_of}
-use Rattle.lensmodel.specs.Preparation.{medium_row}
+use Rattle.lensmodel.specs.Rows.Constants.{residual_units}
+use Rattle.lensmodel.specs.Rows.Outcome.{Outcome, outcome_at, row_of}
+use Rattle.lensmodel.specs.Rows.Preparation.{medium_row}
 use Rattle.lensmodel.specs.Worked.{flat_glass, plane_setup, slanted_ray}
 use Rattle.lensmodel.specs.declared.glass.Glass.{Glass}
 use Rattle.lensmodel.specs.declared.glass.Medium.TheVariants.{Of}

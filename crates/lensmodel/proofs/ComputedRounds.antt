@@ -11,11 +11,11 @@ use Rattle.lensmodel.specs.ComputedFolds.{folded_setup, skew_ray}
 use Rattle.lensmodel.specs.ComputedRounds.{BentParts, FrontParts, SteepRounds, first_parts, steep_asphere}
 use Rattle.lensmodel.specs.ComputedRows.{ones, tenths}
 use Rattle.lensmodel.specs.Worked.{level_ray}
-use Rattle.lensmodel.specs.CrossingRows.{foot_rows}
-use Rattle.lensmodel.specs.Preparation.{preparation_rows}
-use Rattle.lensmodel.specs.SlopeRounds.{window_row, hulls, zone2_of, round_rows}
-use Rattle.lensmodel.specs.StartRows.{start_rows}
-use Rattle.lensmodel.specs.Values.{zero_decimal}
+use Rattle.lensmodel.specs.Rows.Crossing.{foot_rows}
+use Rattle.lensmodel.specs.Rows.Preparation.{preparation_rows}
+use Rattle.lensmodel.specs.Rows.SlopeRounds.{window_row, hulls, zone2_of, round_rows}
+use Rattle.lensmodel.specs.Rows.Start.{start_rows}
+use Rattle.lensmodel.specs.Setup.Values.{zero_decimal}
 use Rattle.lensmodel.specs.declared.launch.Launch.{Launch}
 use Rattle.lensmodel.specs.declared.launch.Launch.TheVariants.{Plain}
 use Rattle.lensmodel.specs.declared.setup.Setup.{Setup}

@@ -6,17 +6,17 @@ use Rattle.fixdec.specs.Interval.{ends, iv_plus, iv_minus, iv_times, iv_square, 
 use Rattle.fixdec.specs.IntervalOperations.{operations}
 use Rattle.fixdec.specs.Operations.{Operations}
 use Rattle.fixdec.specs.Scaled.{dec_floor, dec_ceil, dec_span, dec_shifted}
-use Rattle.lensmodel.specs.BendingRows.{bend_rows, stay_rows}
+use Rattle.lensmodel.specs.Rows.Bending.{bend_rows, stay_rows}
 use Rattle.lensmodel.specs.ComputedRows.{SlantedPlane, SphereHeight, GlassAxis, MirrorFocus, PastSphere, BehindEquator, TotalReflection, OutsideRim, InsideRim, FanRay, AimedRay, row_in_intervals, ones, tenths, ray_sloped, plane_before, air_sphere_setup, bounded_by}
 use Rattle.lensmodel.specs.Worked.{level_ray, mirror_setup, glass_setup, rim_setup, plane_setup, slanted_ray, sphere_setup, axis_ray}
 use Rattle.lensmodel.specs.ComputedScales.{RimTie, WideBeforeUndecided, VignettedBeforeWide, WideAtFirst, FinerPasses, SphereEdge, GrazingRay, FarImage, FarthestImage, FinestResidual, LessFarImage, FartherImage, FinestPasses, CoarseResidual, FineResidual}
-use Rattle.lensmodel.specs.CrossingRows.{meet_standard_rows}
-use Rattle.lensmodel.specs.HitRows.{hit_rows}
-use Rattle.lensmodel.specs.IndexRows.{index_rows}
-use Rattle.lensmodel.specs.Outcome.{Outcome, outcome_at, row_of, walked}
-use Rattle.lensmodel.specs.Preparation.{preparation_rows}
-use Rattle.lensmodel.specs.StartRows.{start_rows}
-use Rattle.lensmodel.specs.Values.{zero_decimal}
+use Rattle.lensmodel.specs.Rows.Crossing.{meet_standard_rows}
+use Rattle.lensmodel.specs.Rows.Hit.{hit_rows}
+use Rattle.lensmodel.specs.Rows.Index.{index_rows}
+use Rattle.lensmodel.specs.Rows.Outcome.{Outcome, outcome_at, row_of, walked}
+use Rattle.lensmodel.specs.Rows.Preparation.{preparation_rows}
+use Rattle.lensmodel.specs.Rows.Start.{start_rows}
+use Rattle.lensmodel.specs.Setup.Values.{zero_decimal}
 use Rattle.lensmodel.specs.declared.launch.Launch.{Launch}
 use Rattle.lensmodel.specs.declared.launch.Launch.TheVariants.{Plain, Pupil}
 use Rattle.lensmodel.specs.declared.row.Word.{Word}

@@ -7,7 +7,7 @@ use Rattle.fixdec.specs.Frac.{Frac, den, ◌≈◌, ◌≤Q◌, ◌<Q◌, ◌+Q�
 use Rattle.fixdec.specs.Ends.{Ends}
 use Rattle.fixdec.specs.Frac.{whole, ◌*Q◌}
 use Rattle.fixdec.specs.Member.{IsMember, units}
-use Rattle.lensmodel.specs.Residual.{IsWithin}
+use Rattle.lensmodel.specs.Equations.Residual.{IsWithin}
 use Rattle.std.specs.Prelude.{ℕ}
 
 pub same : {a b : Frac} → a.num *ℤ den b ≡ b.num *ℤ den a → a ≈ b

@@ -2,16 +2,16 @@
 use Rattle.std.proofs.Common.{◌≡◌, ℕ, suc, ◌≤◌, Bool, true, false, arith, subst}
 use Rattle.std.specs.Prelude.{Option}
 use Rattle.fixdec.specs.Frac.{Frac, ◌≈◌}
-use Rattle.fixdec.specs.FracLaws.{≈_sym, ≈_trans}
-use Rattle.fixdec.specs.OrderLaws.{le_along, le_same_left, lt_along}
-use Rattle.lensmodel.specs.Bending.{IsNormal, Refracts, Reflects, Stays, BendsBy, Bends}
-use Rattle.lensmodel.specs.Chain.{Chain, index_behind}
-use Rattle.lensmodel.specs.Chains.{IsChainTo, IsChainPast}
-use Rattle.lensmodel.specs.Crossing.{Transfers, Crosses, IsSag, IsOnSide}
+use Rattle.fixdec.specs.Algebra.FracLaws.{≈_sym, ≈_trans}
+use Rattle.fixdec.specs.Algebra.OrderLaws.{le_along, le_same_left, lt_along}
+use Rattle.lensmodel.specs.Equations.Bending.{IsNormal, Refracts, Reflects, Stays, BendsBy, Bends}
+use Rattle.lensmodel.specs.Equations.Chain.{Chain, index_behind}
+use Rattle.lensmodel.specs.Equations.Chains.{IsChainTo, IsChainPast}
+use Rattle.lensmodel.specs.Equations.Crossing.{Transfers, Crosses, IsSag, IsOnSide}
 use Rattle.lensmodel.specs.Exchange.{IsSameAt}
-use Rattle.lensmodel.specs.Media.{equal_media, medium_at}
-use Rattle.lensmodel.specs.Start.{Starts}
-use Rattle.lensmodel.specs.Values.{surface_at, curvature, distance, coefficients_of, coefficients, reflects, eps}
+use Rattle.lensmodel.specs.Setup.Media.{equal_media, medium_at}
+use Rattle.lensmodel.specs.Equations.Start.{Starts}
+use Rattle.lensmodel.specs.Setup.Values.{surface_at, curvature, distance, coefficients_of, coefficients, reflects, eps}
 use Rattle.lensmodel.specs.declared.launch.Launch.{Launch}
 use Rattle.lensmodel.specs.declared.setup.Setup.{Setup}
 use Rattle.lensmodel.specs.declared.surface.Surface.{Surface}

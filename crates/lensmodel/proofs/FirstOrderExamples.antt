@@ -4,13 +4,14 @@ use Rattle.std.proofs.lemmas.Bool.{leb-true}
 use Rattle.std.specs.Prelude.{pos, cond, nat_eq}
 use Rattle.fixdec.specs.Interval.{ends, iv_plus, iv_minus, iv_times, iv_square, iv_over, iv_root, iv_widen}
 use Rattle.fixdec.specs.IntervalOperations.{operations}
-use Rattle.fixdec.specs.Root.{root, root_is, root_unique}
+use Rattle.fixdec.specs.Root.{root}
+use Rattle.fixdec.specs.Algebra.RootLaws.{root_is, root_unique}
 use Rattle.fixdec.specs.Scaled.{dec_floor, dec_ceil, dec_span}
 use Rattle.fixdec.specs.declared.step.Step.TheVariants.{Val}
-use Rattle.lensmodel.specs.FirstOrderRows.{ray_rows, first_attempt, first_order}
-use Rattle.lensmodel.specs.IndexRows.{index_rows}
+use Rattle.lensmodel.specs.Paraxial.FirstOrderRows.{ray_rows, first_attempt, first_order}
+use Rattle.lensmodel.specs.Rows.Index.{index_rows}
 use Rattle.lensmodel.specs.ParaxialExamples.{index_square, index, PlaneInAir, GlassSphere, MirrorFocus, SphereSums, ParaboloidSums}
-use Rattle.lensmodel.specs.SeidelRows.{sums_attempt, seidel_sums}
+use Rattle.lensmodel.specs.Paraxial.SeidelRows.{sums_attempt, seidel_sums}
 
 -- the root of the squared index, which is widened by the residual
 index_root : iv_root 15 index_square ≡ Val index

@@ -2,9 +2,9 @@
 use Rattle.std.proofs.Common.{[], ◌∷◌}
 use Rattle.std.specs.Prelude.{pos}
 use Rattle.fixdec.specs.Frac.{Frac, ◌≈◌, ◌≤Q◌, ◌+Q◌, ◌*Q◌, whole}
-use Rattle.fixdec.specs.Linear.{linear, linear_le, name, order, no_fact, reads}
-use Rattle.fixdec.specs.OrderLaws.{zero_le_one}
-use Rattle.lensmodel.specs.Residual.{IsWithin}
+use Rattle.fixdec.specs.Algebra.Linear.{linear, linear_le, name, order, no_fact, reads}
+use Rattle.fixdec.specs.Algebra.OrderLaws.{zero_le_one}
+use Rattle.lensmodel.specs.Equations.Residual.{IsWithin}
 
 pub exact : {eps a b : Frac} → whole (pos 0) ≤Q eps → a ≈ b → IsWithin eps a b
 exact {eps} {a} {b} n p = record {

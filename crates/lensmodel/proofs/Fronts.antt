@@ -1,7 +1,7 @@
 -- A chain to a surface holds every chain to a surface before it.
 use Rattle.std.proofs.Common.{◌≡◌, ℕ, suc, ◌<◌, arith, ◌⊎◌, inl, inr, subst}
 use Rattle.lensmodel.specs.ChainLaws.{ReachesBefore, LeavesBefore, WholeReaches, WholeLeaves, ReachesNext, VignettedExcludes, OutsideExcludes, TirExcludes}
-use Rattle.lensmodel.specs.Crossing.{Transfers, Crosses}
+use Rattle.lensmodel.specs.Equations.Crossing.{Transfers, Crosses}
 
 pub reaches_before : ReachesBefore
 reaches_before s ray c i j le h = record {

@@ -4,7 +4,7 @@ use Rattle.fixdec.specs.Frac.{whole, ◌*Q◌}
 use Rattle.fixdec.specs.Interval.{ends, iv_widen}
 use Rattle.fixdec.specs.IntervalOperations.{operations}
 use Rattle.fixdec.specs.Scaled.{dec_floor, dec_ceil, dec_span}
-use Rattle.lensmodel.specs.Joining.{joined}
+use Rattle.lensmodel.specs.Files.Joining.{joined}
 use Rattle.lensmodel.specs.JoiningExamples.{Wavelengths, Glasses, Tolerances, WideTolerance}
 
 pub wavelengths : Wavelengths

@@ -1,7 +1,7 @@
 -- The rays of small fans and grids, worked out.
 use Rattle.std.proofs.Common.{refl}
 use Rattle.lensmodel.specs.LaunchExamples.{FanOfTwo, GridOfOne}
-use Rattle.lensmodel.specs.Launches.{launches}
+use Rattle.lensmodel.specs.Setup.Launches.{launches}
 
 pub fan_of_two : FanOfTwo
 unfolding launches

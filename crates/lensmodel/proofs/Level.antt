@@ -4,19 +4,19 @@ use Rattle.std.proofs.lemmas.Int.{ints}
 use Rattle.std.specs.Prelude.{pos}
 use Rattle.fixdec.specs.Decimal.{Decimal, value}
 use Rattle.fixdec.specs.Frac.{Frac, ◌≈◌, ◌≤Q◌, ◌<Q◌, ◌+Q◌, ◌*Q◌, whole}
-use Rattle.fixdec.specs.FracLaws.{≈_sym, ≈_trans}
-use Rattle.fixdec.specs.Linear.{linear_le, fact, order, no_fact, reads}
+use Rattle.fixdec.specs.Algebra.FracLaws.{≈_sym, ≈_trans}
+use Rattle.fixdec.specs.Algebra.Linear.{linear_le, fact, order, no_fact, reads}
 use Rattle.fixdec.specs.Member.{Symbols}
-use Rattle.fixdec.specs.Order.{le_trans}
-use Rattle.fixdec.specs.OrderLaws.{zero_le_one, zero_le_whole, le_cancel, le_mul_both, le_of_squares, mul_nn, square_nn, lt_whole, lt_not_le, le_of_lt}
-use Rattle.fixdec.specs.Within.{IsWithin as HasSize, within_mul}
-use Rattle.lensmodel.specs.Chain.{Chain}
-use Rattle.lensmodel.specs.Chains.{IsChainTo}
-use Rattle.lensmodel.specs.Claims.{WordHolds}
-use Rattle.lensmodel.specs.Crossing.{Transfers, Crosses}
-use Rattle.lensmodel.specs.Residual.{IsWithin}
-use Rattle.lensmodel.specs.Start.{slope_x, slope_y}
-use Rattle.lensmodel.specs.Values.{zero_decimal, curvature, eps}
+use Rattle.fixdec.specs.Algebra.Order.{le_trans}
+use Rattle.fixdec.specs.Algebra.OrderLaws.{zero_le_one, zero_le_whole, le_cancel, le_mul_both, le_of_squares, mul_nn, square_nn, lt_whole, lt_not_le, le_of_lt}
+use Rattle.fixdec.specs.Algebra.Within.{HasSize, within_mul}
+use Rattle.lensmodel.specs.Equations.Chain.{Chain}
+use Rattle.lensmodel.specs.Equations.Chains.{IsChainTo}
+use Rattle.lensmodel.specs.Claims.RowClaims.{WordHolds}
+use Rattle.lensmodel.specs.Equations.Crossing.{Transfers, Crosses}
+use Rattle.lensmodel.specs.Equations.Residual.{IsWithin}
+use Rattle.lensmodel.specs.Equations.Start.{slope_x, slope_y}
+use Rattle.lensmodel.specs.Setup.Values.{zero_decimal, curvature, eps}
 use Rattle.lensmodel.specs.Worked.{rim_setup, level_ray, high_height, low_height}
 use Rattle.lensmodel.specs.declared.row.Word.TheVariants.{Passes, Vignetted}
 use Rattle.lensmodel.proofs.Along.{keep}

@@ -3,11 +3,11 @@ use Rattle.std.proofs.Common.{◌≡◌, ℕ, zero, suc, Bool, true, false, ◌&
 use Rattle.std.proofs.lemmas.Int.{ints}
 use Rattle.std.specs.Prelude.{ℤ, pos, negsuc, neg_ℤ, ◌↔◌, IsTrue, if◌then◌else◌}
 use Rattle.fixdec.specs.Frac.{◌+Q◌}
-use Rattle.lensmodel.specs.Bending.{BendsBy, Stays}
-use Rattle.lensmodel.specs.Chain.{Chain}
+use Rattle.lensmodel.specs.Equations.Bending.{BendsBy, Stays}
+use Rattle.lensmodel.specs.Equations.Chain.{Chain}
 use Rattle.lensmodel.specs.ChainLaws.{DirectionStays, TurnsAtMirrors, StaysElsewhere, MirrorsKeepMedium, MirrorsKeepIndex}
-use Rattle.lensmodel.specs.Media.{equal_media, same_medium, medium_at, has_tolerance}
-use Rattle.lensmodel.specs.Values.{reflects, travel, owner, tolerances, deviation}
+use Rattle.lensmodel.specs.Setup.Media.{equal_media, same_medium, medium_at, has_tolerance}
+use Rattle.lensmodel.specs.Setup.Values.{reflects, travel, owner, tolerances, deviation}
 use Rattle.lensmodel.specs.declared.glass.Medium.TheVariants.{Air}
 use Rattle.lensmodel.specs.declared.setup.Setup.{Setup}
 use Rattle.lensmodel.specs.declared.tolerance.TolKind.TheVariants.{Indx}

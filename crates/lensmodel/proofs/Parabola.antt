@@ -3,13 +3,13 @@ use Rattle.std.proofs.Common.{ℕ, zero, suc, ◌<◌, refl, arith}
 use Rattle.std.specs.Prelude.{pos, negsuc}
 use Rattle.fixdec.specs.Frac.{◌+Q◌, ◌*Q◌, ◌-Q◌, neg_Q, whole}
 use Rattle.fixdec.specs.Member.{Symbols}
-use Rattle.lensmodel.specs.Bending.{Bends}
-use Rattle.lensmodel.specs.Chains.{IsWhole}
-use Rattle.lensmodel.specs.Crossing.{Transfers, Crosses}
-use Rattle.lensmodel.specs.Dispersion.{IsIndex}
-use Rattle.lensmodel.specs.Media.{medium_at}
-use Rattle.lensmodel.specs.Start.{Starts}
-use Rattle.lensmodel.specs.Values.{eps, owner}
+use Rattle.lensmodel.specs.Equations.Bending.{Bends}
+use Rattle.lensmodel.specs.Equations.Chains.{IsWhole}
+use Rattle.lensmodel.specs.Equations.Crossing.{Transfers, Crosses}
+use Rattle.lensmodel.specs.Equations.Dispersion.{IsIndex}
+use Rattle.lensmodel.specs.Setup.Media.{medium_at}
+use Rattle.lensmodel.specs.Equations.Start.{Starts}
+use Rattle.lensmodel.specs.Setup.Values.{eps, owner}
 use Rattle.lensmodel.proofs.Concrete.{same, at_most, less_than, near}
 use Rattle.lensmodel.specs.Worked.{mirror_setup, level_ray, whole_decimal}
 use Rattle.lensmodel.specs.WorkedChains.{mirror_chain, digits}

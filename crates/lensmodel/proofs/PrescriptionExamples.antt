@@ -4,7 +4,7 @@ use Rattle.fixdec.specs.Frac.{whole, ◌*Q◌}
 use Rattle.fixdec.specs.Scaled.{dec_ceil, dec_shifted}
 use Rattle.fixdec.specs.Zone.{zone, zone_span, least_power, norm}
 use Rattle.lensmodel.specs.PrescriptionExamples.{WideZone, SmallZone, NoZones, Norms, Faults, CoefficientBound, FoldedLens, EqualMedia}
-use Rattle.lensmodel.specs.WholeFaults.{whole_fault}
+use Rattle.lensmodel.specs.Setup.WholeFaults.{whole_fault}
 
 pub wide_zone : WideZone
 unfolding zone_span zone norm least_power dec_ceil dec_shifted

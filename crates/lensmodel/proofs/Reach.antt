@@ -3,12 +3,12 @@ use Rattle.std.proofs.Common.{ℕ, zero, suc, ◌<◌, refl, arith}
 use Rattle.std.specs.Prelude.{pos}
 use Rattle.fixdec.specs.Frac.{◌+Q◌, ◌*Q◌, ◌-Q◌, neg_Q, whole}
 use Rattle.fixdec.specs.Member.{Symbols}
-use Rattle.lensmodel.specs.Chains.{IsChainTo}
-use Rattle.lensmodel.specs.Crossing.{Transfers, Crosses}
-use Rattle.lensmodel.specs.Dispersion.{IsIndex}
-use Rattle.lensmodel.specs.Media.{medium_at}
-use Rattle.lensmodel.specs.Start.{Starts}
-use Rattle.lensmodel.specs.Values.{eps, owner}
+use Rattle.lensmodel.specs.Equations.Chains.{IsChainTo}
+use Rattle.lensmodel.specs.Equations.Crossing.{Transfers, Crosses}
+use Rattle.lensmodel.specs.Equations.Dispersion.{IsIndex}
+use Rattle.lensmodel.specs.Setup.Media.{medium_at}
+use Rattle.lensmodel.specs.Equations.Start.{Starts}
+use Rattle.lensmodel.specs.Setup.Values.{eps, owner}
 use Rattle.lensmodel.proofs.Concrete.{same, at_most, less_than, near}
 use Rattle.lensmodel.specs.Worked.{glass_setup, steep_ray}
 use Rattle.lensmodel.specs.WorkedChains.{steep_chain}

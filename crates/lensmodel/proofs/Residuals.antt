@@ -3,15 +3,15 @@ use Rattle.std.proofs.Common.{ℕ, zero, suc, ◌<◌, refl, [], ◌∷◌, arit
 use Rattle.std.proofs.lemmas.Int.{ints}
 use Rattle.std.specs.Prelude.{pos}
 use Rattle.fixdec.specs.Frac.{Frac, ◌≈◌, ◌≤Q◌, ◌+Q◌, ◌-Q◌, ◌*Q◌, neg_Q, whole}
-use Rattle.fixdec.specs.FracLaws.{≈_sym}
-use Rattle.fixdec.specs.Linear.{linear_le, fact, order, no_fact, reads}
+use Rattle.fixdec.specs.Algebra.FracLaws.{≈_sym}
+use Rattle.fixdec.specs.Algebra.Linear.{linear_le, fact, order, no_fact, reads}
 use Rattle.fixdec.specs.Member.{Symbols}
-use Rattle.fixdec.specs.OrderLaws.{zero_le_one, zero_le_whole, le_cancel, lt_whole}
-use Rattle.lensmodel.specs.Bending.{Bends}
-use Rattle.lensmodel.specs.Chains.{IsWhole}
-use Rattle.lensmodel.specs.Crossing.{Transfers, Crosses}
-use Rattle.lensmodel.specs.Residual.{IsWithin}
-use Rattle.lensmodel.specs.Values.{curvature, conic_factor, distance, eps}
+use Rattle.fixdec.specs.Algebra.OrderLaws.{zero_le_one, zero_le_whole, le_cancel, lt_whole}
+use Rattle.lensmodel.specs.Equations.Bending.{Bends}
+use Rattle.lensmodel.specs.Equations.Chains.{IsWhole}
+use Rattle.lensmodel.specs.Equations.Crossing.{Transfers, Crosses}
+use Rattle.lensmodel.specs.Equations.Residual.{IsWithin}
+use Rattle.lensmodel.specs.Setup.Values.{curvature, conic_factor, distance, eps}
 use Rattle.lensmodel.specs.Worked.{plane_setup, slanted_ray}
 use Rattle.lensmodel.specs.WorkedChains.{slanted_to}
 use Rattle.lensmodel.proofs.Along.{keep, within_along}

@@ -3,12 +3,12 @@ use Rattle.std.proofs.Common.{ℕ, zero, suc, Bool, true, false, ◌&&◌, not, 
 use Rattle.std.specs.Prelude.{pos, if◌then◌else◌, None}
 use Rattle.fixdec.specs.Decimal.{value}
 use Rattle.fixdec.specs.Frac.{Frac, ◌≈◌, ◌*Q◌, whole}
-use Rattle.fixdec.specs.FracLaws.{Q-IsRing, ≈_sym, ≈_trans}
+use Rattle.fixdec.specs.Algebra.FracLaws.{Q-IsRing, ≈_sym, ≈_trans}
 use Rattle.fixdec.specs.Member.{Symbols}
-use Rattle.lensmodel.specs.Chain.{Chain}
+use Rattle.lensmodel.specs.Equations.Chain.{Chain}
 use Rattle.lensmodel.specs.Exchange.{IsSameAt, IsSameUpTo, ReachesAlike, LeavesAlike, ClearsAlike, without_box, IsAtRest, CurvatureAtRest, DistanceAtRest, IndexAtRest, IndexFreeKeeps, BoxHoldsLens, LensAtRest}
-use Rattle.lensmodel.specs.Media.{equal_media, same_medium, medium_at}
-use Rattle.lensmodel.specs.Values.{surface_at, owner, reflects, tolerances, stands_on, deviation_from, distance}
+use Rattle.lensmodel.specs.Setup.Media.{equal_media, same_medium, medium_at}
+use Rattle.lensmodel.specs.Setup.Values.{surface_at, owner, reflects, tolerances, stands_on, deviation_from, distance}
 use Rattle.lensmodel.specs.declared.setup.Setup.{Setup}
 use Rattle.lensmodel.specs.declared.tolerance.Tol.{Tol}
 use Rattle.lensmodel.specs.declared.tolerance.TolKind.{TolKind}

@@ -2,18 +2,18 @@
 use Rattle.std.proofs.Common.{ℕ, zero, suc, ◌<◌, refl, arith}
 use Rattle.std.specs.Prelude.{pos}
 use Rattle.fixdec.specs.Frac.{Frac, ◌≈◌, ◌≤Q◌, ◌<Q◌, ◌+Q◌, ◌*Q◌, ◌-Q◌, neg_Q, whole}
-use Rattle.fixdec.specs.FracLaws.{≈_sym}
+use Rattle.fixdec.specs.Algebra.FracLaws.{≈_sym}
 use Rattle.fixdec.specs.Member.{Symbols}
-use Rattle.fixdec.specs.Order.{le_trans}
-use Rattle.fixdec.specs.OrderLaws.{zero_le_one, zero_le_whole, le_mul_both, le_of_squares, le_of_lt, le_same_right, lt_not_le}
-use Rattle.lensmodel.specs.Bending.{Bends}
-use Rattle.lensmodel.specs.Chains.{IsWhole, Clears, ClearsAll}
-use Rattle.lensmodel.specs.Crossing.{Transfers, Crosses}
-use Rattle.lensmodel.specs.Dispersion.{IsIndex}
-use Rattle.lensmodel.specs.Media.{medium_at}
-use Rattle.lensmodel.specs.Residual.{IsWithin}
-use Rattle.lensmodel.specs.Start.{Starts}
-use Rattle.lensmodel.specs.Values.{curvature, conic_factor, eps, owner}
+use Rattle.fixdec.specs.Algebra.Order.{le_trans}
+use Rattle.fixdec.specs.Algebra.OrderLaws.{zero_le_one, zero_le_whole, le_mul_both, le_of_squares, le_of_lt, le_same_right, lt_not_le}
+use Rattle.lensmodel.specs.Equations.Bending.{Bends}
+use Rattle.lensmodel.specs.Equations.Chains.{IsWhole, Clears, ClearsAll}
+use Rattle.lensmodel.specs.Equations.Crossing.{Transfers, Crosses}
+use Rattle.lensmodel.specs.Equations.Dispersion.{IsIndex}
+use Rattle.lensmodel.specs.Setup.Media.{medium_at}
+use Rattle.lensmodel.specs.Equations.Residual.{IsWithin}
+use Rattle.lensmodel.specs.Equations.Start.{Starts}
+use Rattle.lensmodel.specs.Setup.Values.{curvature, conic_factor, eps, owner}
 use Rattle.lensmodel.specs.Worked.{rim_setup, level_ray, whole_decimal}
 use Rattle.lensmodel.specs.WorkedChains.{level_chain}
 use Rattle.lensmodel.proofs.Along.{keep, within_along}

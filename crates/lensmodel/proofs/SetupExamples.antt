@@ -6,13 +6,13 @@ use Rattle.fixdec.specs.Frac.{whole, ◌*Q◌}
 use Rattle.fixdec.specs.Interval.{ends, iv_widen}
 use Rattle.fixdec.specs.IntervalOperations.{operations}
 use Rattle.fixdec.specs.Scaled.{dec_floor, dec_ceil, dec_span}
-use Rattle.lensmodel.specs.Dispersion.{IsKnown}
+use Rattle.lensmodel.specs.Equations.Dispersion.{IsKnown}
 use Rattle.lensmodel.specs.SetupExamples.{MirrorIsWellFormed, AirIndices, Widths, Residuals, Sides, Places, Rims}
 use Rattle.lensmodel.specs.SmallLenses.{whole_dec, tenths}
 use Rattle.lensmodel.specs.Worked.{mirror_setup}
-use Rattle.lensmodel.specs.Values.{zero_decimal, reflects}
-use Rattle.lensmodel.specs.WellFormed.{IsWritten, IsWrittenSurface, IsSound, HasMedia, HasBox, HasGoodIndex}
-use Rattle.lensmodel.specs.WholeFaults.{whole_fault}
+use Rattle.lensmodel.specs.Setup.Values.{zero_decimal, reflects}
+use Rattle.lensmodel.specs.Setup.WellFormed.{IsWritten, IsWrittenSurface, IsSound, HasMedia, HasBox, HasGoodIndex}
+use Rattle.lensmodel.specs.Setup.WholeFaults.{whole_fault}
 use Rattle.lensmodel.specs.declared.glass.Medium.TheVariants.{Air}
 
 -- an exponent from -60 to 30

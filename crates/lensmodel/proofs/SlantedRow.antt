@@ -3,16 +3,16 @@ use Rattle.std.proofs.Common.{◌≡◌, zero, suc, refl, ap, subst, arith}
 use Rattle.std.proofs.lemmas.Int.{ints}
 use Rattle.std.specs.Prelude.{pos, negsuc, Option, Some, None}
 use Rattle.fixdec.specs.Frac.{◌≈◌, ◌≤Q◌, ◌+Q◌, ◌*Q◌, whole}
-use Rattle.fixdec.specs.FracLaws.{≈_sym, ≈_trans}
+use Rattle.fixdec.specs.Algebra.FracLaws.{≈_sym, ≈_trans}
 use Rattle.fixdec.specs.Member.{IsMember}
-use Rattle.fixdec.specs.Within.{IsWithin as HasSize, within_same, within_to}
-use Rattle.lensmodel.specs.Bending.{Stays}
-use Rattle.lensmodel.specs.Chain.{Chain, index_behind}
-use Rattle.lensmodel.specs.Chains.{IsChainTo}
-use Rattle.lensmodel.specs.Claims.{HoldsPlace, HoldsHeading, HoldsAt, Encloses, WordHolds, RowHolds}
-use Rattle.lensmodel.specs.Crossing.{Transfers, Crosses}
-use Rattle.lensmodel.specs.Residual.{IsWithin}
-use Rattle.lensmodel.specs.Values.{distance, eps}
+use Rattle.fixdec.specs.Algebra.Within.{HasSize, within_same, within_to}
+use Rattle.lensmodel.specs.Equations.Bending.{Stays}
+use Rattle.lensmodel.specs.Equations.Chain.{Chain, index_behind}
+use Rattle.lensmodel.specs.Equations.Chains.{IsChainTo}
+use Rattle.lensmodel.specs.Claims.RowClaims.{HoldsPlace, HoldsHeading, HoldsAt, Encloses, WordHolds, RowHolds}
+use Rattle.lensmodel.specs.Equations.Crossing.{Transfers, Crosses}
+use Rattle.lensmodel.specs.Equations.Residual.{IsWithin}
+use Rattle.lensmodel.specs.Setup.Values.{distance, eps}
 use Rattle.lensmodel.specs.Worked.{plane_setup, slanted_ray}
 use Rattle.lensmodel.specs.WorkedRow.{span, slanted_image, slanted_row}
 use Rattle.lensmodel.specs.declared.row.Word.TheVariants.{Passes}

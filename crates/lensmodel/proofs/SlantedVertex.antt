@@ -4,17 +4,17 @@ use Rattle.std.proofs.lemmas.Int.{ints}
 use Rattle.std.specs.Prelude.{pos}
 use Rattle.fixdec.specs.Decimal.{value}
 use Rattle.fixdec.specs.Frac.{Frac, ◌≈◌, ◌≤Q◌, ◌+Q◌, ◌*Q◌, whole}
-use Rattle.fixdec.specs.FracLaws.{≈_sym, ≈_trans}
-use Rattle.fixdec.specs.Linear.{linear, no_fact, reads}
+use Rattle.fixdec.specs.Algebra.FracLaws.{≈_sym, ≈_trans}
+use Rattle.fixdec.specs.Algebra.Linear.{linear, no_fact, reads}
 use Rattle.fixdec.specs.Member.{IsMember, Symbols}
-use Rattle.fixdec.specs.Within.{IsWithin as HasSize, within_mul, within_more, within_same, within_to, within_whole}
-use Rattle.lensmodel.specs.Bending.{Stays}
-use Rattle.lensmodel.specs.Chain.{Chain, index_behind}
-use Rattle.lensmodel.specs.Chains.{IsChainTo}
-use Rattle.lensmodel.specs.Claims.{HoldsPlace, HoldsHeading}
-use Rattle.lensmodel.specs.Crossing.{Transfers, Crosses}
-use Rattle.lensmodel.specs.Start.{slope_x, slope_y}
-use Rattle.lensmodel.specs.Values.{zero_decimal, curvature, distance, eps}
+use Rattle.fixdec.specs.Algebra.Within.{HasSize, within_mul, within_more, within_same, within_to, within_whole}
+use Rattle.lensmodel.specs.Equations.Bending.{Stays}
+use Rattle.lensmodel.specs.Equations.Chain.{Chain, index_behind}
+use Rattle.lensmodel.specs.Equations.Chains.{IsChainTo}
+use Rattle.lensmodel.specs.Claims.RowClaims.{HoldsPlace, HoldsHeading}
+use Rattle.lensmodel.specs.Equations.Crossing.{Transfers, Crosses}
+use Rattle.lensmodel.specs.Equations.Start.{slope_x, slope_y}
+use Rattle.lensmodel.specs.Setup.Values.{zero_decimal, curvature, distance, eps}
 use Rattle.lensmodel.specs.Worked.{plane_setup, slanted_ray}
 use Rattle.lensmodel.specs.WorkedRow.{span, slanted_vertex, slanted_heading}
 use Rattle.lensmodel.proofs.Along.{keep}

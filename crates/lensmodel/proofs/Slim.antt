@@ -3,11 +3,11 @@ use Rattle.std.proofs.Common.{[], ◌∷◌, arith}
 use Rattle.std.proofs.lemmas.Int.{ints}
 use Rattle.std.specs.Prelude.{pos}
 use Rattle.fixdec.specs.Frac.{Frac, ◌≈◌, ◌≤Q◌, ◌<Q◌, ◌+Q◌, ◌*Q◌, whole}
-use Rattle.fixdec.specs.FracLaws.{≈_sym}
-use Rattle.fixdec.specs.Linear.{linear_le, fact, order, no_fact, reads}
-use Rattle.fixdec.specs.OrderLaws.{zero_le_one, zero_le_whole, le_cancel, le_of_squares, mul_nn, lt_whole, le_of_lt}
-use Rattle.fixdec.specs.Within.{IsWithin as HasSize}
-use Rattle.lensmodel.specs.Residual.{IsWithin}
+use Rattle.fixdec.specs.Algebra.FracLaws.{≈_sym}
+use Rattle.fixdec.specs.Algebra.Linear.{linear_le, fact, order, no_fact, reads}
+use Rattle.fixdec.specs.Algebra.OrderLaws.{zero_le_one, zero_le_whole, le_cancel, le_of_squares, mul_nn, lt_whole, le_of_lt}
+use Rattle.fixdec.specs.Algebra.Within.{HasSize}
+use Rattle.lensmodel.specs.Equations.Residual.{IsWithin}
 
 module _ (eps : Frac) (some : whole (pos 0) ≤Q eps) (small : eps *Q whole (pos 1000000000) ≤Q whole (pos 1)) where
   -- the cosine along the axis, where one plus the squares of the slopes is 25/16

@@ -4,13 +4,13 @@ use Rattle.std.proofs.lemmas.Int.{ints}
 use Rattle.std.specs.Prelude.{ℤ, pos, negsuc, ◌≤ℤ◌}
 use Rattle.fixdec.specs.Ends.{Ends}
 use Rattle.fixdec.specs.Frac.{Frac, ◌≈◌, ◌≤Q◌, ◌+Q◌, ◌-Q◌, ◌*Q◌, neg_Q, whole}
-use Rattle.fixdec.specs.FracLaws.{≈_sym}
-use Rattle.fixdec.specs.Linear.{linear_le, fact, order, no_fact, reads}
+use Rattle.fixdec.specs.Algebra.FracLaws.{≈_sym}
+use Rattle.fixdec.specs.Algebra.Linear.{linear_le, fact, order, no_fact, reads}
 use Rattle.fixdec.specs.Member.{IsMember}
-use Rattle.fixdec.specs.Order.{le_trans, le_whole}
-use Rattle.fixdec.specs.OrderLaws.{zero_le_one, zero_le_whole, le_cancel, le_mul_left, le_along, square_nn, lt_whole}
-use Rattle.fixdec.specs.Within.{IsWithin as HasSize, within_mul, within_more}
-use Rattle.lensmodel.specs.Residual.{IsWithin}
+use Rattle.fixdec.specs.Algebra.Order.{le_trans, le_whole}
+use Rattle.fixdec.specs.Algebra.OrderLaws.{zero_le_one, zero_le_whole, le_cancel, le_mul_left, le_along, square_nn, lt_whole}
+use Rattle.fixdec.specs.Algebra.Within.{HasSize, within_mul, within_more}
+use Rattle.lensmodel.specs.Equations.Residual.{IsWithin}
 use Rattle.lensmodel.specs.WorkedRow.{span}
 use Rattle.lensmodel.proofs.Along.{keep, times}
 

@@ -3,12 +3,12 @@ use Rattle.std.proofs.Common.{[], ◌∷◌, arith}
 use Rattle.std.proofs.lemmas.Int.{ints}
 use Rattle.std.specs.Prelude.{pos, negsuc}
 use Rattle.fixdec.specs.Frac.{Frac, ◌≈◌, ◌+Q◌, ◌*Q◌, whole}
-use Rattle.fixdec.specs.FracLaws.{≈_sym}
-use Rattle.fixdec.specs.Linear.{linear_le, fact, order, no_fact, reads}
+use Rattle.fixdec.specs.Algebra.FracLaws.{≈_sym}
+use Rattle.fixdec.specs.Algebra.Linear.{linear_le, fact, order, no_fact, reads}
 use Rattle.fixdec.specs.Member.{IsMember}
-use Rattle.fixdec.specs.Order.{le_trans}
-use Rattle.fixdec.specs.OrderLaws.{zero_le_one, zero_le_whole, le_cancel, le_mul_both, square_nn, lt_whole}
-use Rattle.fixdec.specs.Within.{IsWithin as HasSize, within_mul}
+use Rattle.fixdec.specs.Algebra.Order.{le_trans}
+use Rattle.fixdec.specs.Algebra.OrderLaws.{zero_le_one, zero_le_whole, le_cancel, le_mul_both, square_nn, lt_whole}
+use Rattle.fixdec.specs.Algebra.Within.{HasSize, within_mul}
 use Rattle.lensmodel.specs.WorkedRow.{span}
 
 -- the square of the distance from the axis, at the image

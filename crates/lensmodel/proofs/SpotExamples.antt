@@ -2,7 +2,7 @@
 use Rattle.std.proofs.Common.{refl}
 use Rattle.fixdec.specs.Interval.{ends, iv_plus, iv_minus, iv_square, iv_clip}
 use Rattle.lensmodel.specs.SpotExamples.{GridStatistics, MixedStatistics, FarStatistics}
-use Rattle.lensmodel.specs.SpotRows.{centroid_rows, spread_rows}
+use Rattle.lensmodel.specs.Rows.Spot.{centroid_rows, spread_rows}
 
 pub grid_statistics : GridStatistics
 unfolding spread_rows centroid_rows ends iv_plus iv_minus iv_square iv_clip

@@ -4,19 +4,19 @@ use Rattle.std.proofs.lemmas.Int.{ints}
 use Rattle.std.specs.Prelude.{pos}
 use Rattle.fixdec.specs.Decimal.{value}
 use Rattle.fixdec.specs.Frac.{Frac, ◌≈◌, ◌≤Q◌, ◌<Q◌, ◌+Q◌, ◌*Q◌, ◌-Q◌, whole}
-use Rattle.fixdec.specs.FracLaws.{≈_sym, ≈_trans}
-use Rattle.fixdec.specs.Linear.{linear, linear_le, name, fact, order, no_fact, reads}
+use Rattle.fixdec.specs.Algebra.FracLaws.{≈_sym, ≈_trans}
+use Rattle.fixdec.specs.Algebra.Linear.{linear, linear_le, name, fact, order, no_fact, reads}
 use Rattle.fixdec.specs.Member.{Symbols}
-use Rattle.fixdec.specs.OrderLaws.{zero_le_one, zero_le_whole, le_cancel, le_mul_both, le_same_right, add_nn, mul_nn, square_nn, lt_whole, lt_from_not, lt_not_le}
-use Rattle.fixdec.specs.Within.{IsWithin as HasSize, within_add, within_mul}
-use Rattle.lensmodel.specs.Bending.{Refracts}
-use Rattle.lensmodel.specs.Chain.{Chain, index_behind}
-use Rattle.lensmodel.specs.Chains.{IsChainPast}
-use Rattle.lensmodel.specs.Crossing.{Transfers, Crosses}
-use Rattle.lensmodel.specs.Dispersion.{IsSchott, IsGlassIndex}
-use Rattle.lensmodel.specs.Residual.{IsWithin}
-use Rattle.lensmodel.specs.Start.{Starts, slope_x, slope_y}
-use Rattle.lensmodel.specs.Values.{zero_decimal, curvature, eps}
+use Rattle.fixdec.specs.Algebra.OrderLaws.{zero_le_one, zero_le_whole, le_cancel, le_mul_both, le_same_right, add_nn, mul_nn, square_nn, lt_whole, lt_from_not, lt_not_le}
+use Rattle.fixdec.specs.Algebra.Within.{HasSize, within_add, within_mul}
+use Rattle.lensmodel.specs.Equations.Bending.{Refracts}
+use Rattle.lensmodel.specs.Equations.Chain.{Chain, index_behind}
+use Rattle.lensmodel.specs.Equations.Chains.{IsChainPast}
+use Rattle.lensmodel.specs.Equations.Crossing.{Transfers, Crosses}
+use Rattle.lensmodel.specs.Equations.Dispersion.{IsSchott, IsGlassIndex}
+use Rattle.lensmodel.specs.Equations.Residual.{IsWithin}
+use Rattle.lensmodel.specs.Equations.Start.{Starts, slope_x, slope_y}
+use Rattle.lensmodel.specs.Setup.Values.{zero_decimal, curvature, eps}
 use Rattle.lensmodel.specs.Worked.{flat_glass, glass_setup, steep_ray}
 use Rattle.lensmodel.proofs.Along.{keep, times, within_along}
 use Rattle.lensmodel.proofs.Boxes.{index_written}

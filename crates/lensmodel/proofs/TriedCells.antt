@@ -11,15 +11,15 @@ use Rattle.fixdec.specs.declared.step.Step.{Step}
 use Rattle.fixdec.specs.declared.step.Step.TheVariants.{Val, Empty, Lost}
 use Rattle.fixdec.specs.declared.step.Why.TheVariants.{Root}
 use Rattle.lensmodel.specs.ComputedRows.{row_in_intervals}
-use Rattle.lensmodel.specs.Constants.{residual_units}
-use Rattle.lensmodel.specs.CrossingRows.{Met, foot_rows, meet_standard_rows}
-use Rattle.lensmodel.specs.HitRows.{hit_rows, meet_by, point_rows}
-use Rattle.lensmodel.specs.Outcome.{Outcome, Walked, ends_with, at_hit, at_prepared, walk, started, walked, word_of, places_of, outcome_at, row_of}
-use Rattle.lensmodel.specs.Preparation.{Prepared, preparation_rows}
-use Rattle.lensmodel.specs.SagRows.{sag_rows}
-use Rattle.lensmodel.specs.SlopeRounds.{up_to, window_row, is_kept, cells, kept_hull, hulls, zone2_of, round_rows, narrowed, last_answer, meet_asphere_rows}
-use Rattle.lensmodel.specs.StartRows.{Incoming, start_rows}
-use Rattle.lensmodel.specs.Values.{image}
+use Rattle.lensmodel.specs.Rows.Constants.{residual_units}
+use Rattle.lensmodel.specs.Rows.Crossing.{Met, foot_rows, meet_standard_rows}
+use Rattle.lensmodel.specs.Rows.Hit.{hit_rows, meet_by, point_rows}
+use Rattle.lensmodel.specs.Rows.Outcome.{Outcome, Walked, ends_with, at_hit, at_prepared, walk, started, walked, word_of, places_of, outcome_at, row_of}
+use Rattle.lensmodel.specs.Rows.Preparation.{Prepared, preparation_rows}
+use Rattle.lensmodel.specs.Rows.Sag.{sag_rows}
+use Rattle.lensmodel.specs.Rows.SlopeRounds.{up_to, window_row, is_kept, cells, kept_hull, hulls, zone2_of, round_rows, narrowed, last_answer, meet_asphere_rows}
+use Rattle.lensmodel.specs.Rows.Start.{Incoming, start_rows}
+use Rattle.lensmodel.specs.Setup.Values.{image}
 use Rattle.lensmodel.specs.declared.launch.Launch.{Launch}
 use Rattle.lensmodel.specs.declared.row.Word.TheVariants as word
 use Rattle.lensmodel.specs.declared.setup.Setup.{Setup}

@@ -7,7 +7,8 @@ use Rattle.fixdec.specs.Ends.{Ends}
 use Rattle.fixdec.specs.Interval.{ends, positive_part, iv_plus, iv_minus, iv_times, iv_square, iv_over, iv_root, iv_widen, iv_shift, iv_clip}
 use Rattle.fixdec.specs.IntervalOperations.{operations}
 use Rattle.fixdec.specs.Operations.{Operations}
-use Rattle.fixdec.specs.Root.{root, root_is, root_unique}
+use Rattle.fixdec.specs.Root.{root}
+use Rattle.fixdec.specs.Algebra.RootLaws.{root_is, root_unique}
 use Rattle.fixdec.specs.declared.step.Step.{Step}
 use Rattle.fixdec.specs.declared.step.Step.TheVariants.{Empty}
 

@@ -3,13 +3,13 @@ use Rattle.std.specs.Prelude.{◌≡◌, ℕ, suc, ◌<◌, ◌≤◌, ◌↔◌
 use Rattle.fixdec.specs.Decimal.{value}
 use Rattle.fixdec.specs.Frac.{◌≈◌}
 use Rattle.fixdec.specs.Member.{Symbols}
-use Rattle.lensmodel.specs.Bending.{Stays}
-use Rattle.lensmodel.specs.Chain.{Chain, index_behind}
-use Rattle.lensmodel.specs.Chains.{IsChainTo, IsChainPast, IsWhole, ClearsAll}
-use Rattle.lensmodel.specs.Claims.{WordHolds}
-use Rattle.lensmodel.specs.Crossing.{Transfers, Crosses}
-use Rattle.lensmodel.specs.Media.{medium_at, equal_media}
-use Rattle.lensmodel.specs.Values.{surface_at, image, reflects, owner, travel, curvature, distance, written_thickness}
+use Rattle.lensmodel.specs.Equations.Bending.{Stays}
+use Rattle.lensmodel.specs.Equations.Chain.{Chain, index_behind}
+use Rattle.lensmodel.specs.Equations.Chains.{IsChainTo, IsChainPast, IsWhole, ClearsAll}
+use Rattle.lensmodel.specs.Claims.RowClaims.{WordHolds}
+use Rattle.lensmodel.specs.Equations.Crossing.{Transfers, Crosses}
+use Rattle.lensmodel.specs.Setup.Media.{medium_at, equal_media}
+use Rattle.lensmodel.specs.Setup.Values.{surface_at, image, reflects, owner, travel, curvature, distance, written_thickness}
 use Rattle.lensmodel.specs.declared.launch.Launch.{Launch}
 use Rattle.lensmodel.specs.declared.row.Word.TheVariants.{Vignetted, Outside, Tir}
 use Rattle.lensmodel.specs.declared.setup.Setup.{Setup}

@@ -3,7 +3,7 @@ use Rattle.std.specs.Prelude.{◌≡◌, pos, negsuc, [], ◌∷◌, Some}
 use Rattle.fixdec.specs.declared.step.Why.TheVariants.{Root, Range}
 use Rattle.lensmodel.specs.ComputedRows.{Gives, row_in_intervals, outcome, place, headed, about, ones, tenths}
 use Rattle.lensmodel.specs.Worked.{level_ray, far_object, setup_of}
-use Rattle.lensmodel.specs.Values.{zero_decimal, plane}
+use Rattle.lensmodel.specs.Setup.Values.{zero_decimal, plane}
 use Rattle.lensmodel.specs.WorkedRow.{span}
 use Rattle.lensmodel.specs.declared.glass.Medium.TheVariants.{Air}
 use Rattle.lensmodel.specs.declared.launch.Launch.{Launch}

@@ -5,10 +5,10 @@ use Rattle.fixdec.specs.Form.{linear_operations}
 use Rattle.fixdec.specs.IntervalOperations.{operations}
 use Rattle.fixdec.specs.declared.step.Step.TheVariants.{Val}
 use Rattle.lensmodel.specs.ComputedRows.{outcome, place, headed, about, ones, tenths}
-use Rattle.lensmodel.specs.Constants.{residual_units}
-use Rattle.lensmodel.specs.Outcome.{outcome_at}
-use Rattle.lensmodel.specs.Preparation.{medium_row}
-use Rattle.lensmodel.specs.Values.{plane}
+use Rattle.lensmodel.specs.Rows.Constants.{residual_units}
+use Rattle.lensmodel.specs.Rows.Outcome.{outcome_at}
+use Rattle.lensmodel.specs.Rows.Preparation.{medium_row}
+use Rattle.lensmodel.specs.Setup.Values.{plane}
 use Rattle.lensmodel.specs.Worked.{flat_name, flat_glass, far_object, setup_of, plane_setup, slanted_ray}
 use Rattle.lensmodel.specs.WorkedRow.{span}
 use Rattle.lensmodel.specs.declared.glass.Glass.{Glass}

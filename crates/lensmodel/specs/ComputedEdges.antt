@@ -3,7 +3,7 @@ use Rattle.std.specs.Prelude.{◌≡◌, ℕ, pos, negsuc, true, [], ◌∷◌, 
 use Rattle.fixdec.specs.Decimal.{Decimal}
 use Rattle.lensmodel.specs.ComputedBoxes.{GivesInForms, boxed}
 use Rattle.lensmodel.specs.ComputedRows.{Gives, row_in_intervals, outcome, place, headed, about, ones, tenths}
-use Rattle.lensmodel.specs.Values.{plane}
+use Rattle.lensmodel.specs.Setup.Values.{plane}
 use Rattle.lensmodel.specs.Worked.{flat_name, flat_glass, far_object, setup_of, plane_setup, slanted_ray}
 use Rattle.lensmodel.specs.WorkedRow.{span, slanted_heading, slanted_vertex, slanted_image}
 use Rattle.lensmodel.specs.declared.glass.Medium.TheVariants.{Air, Of}

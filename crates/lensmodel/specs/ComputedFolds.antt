@@ -3,7 +3,7 @@ use Rattle.std.specs.Prelude.{ℕ, ℤ, pos, negsuc, neg_ℤ, true, [], ◌∷�
 use Rattle.fixdec.specs.Decimal.{Decimal}
 use Rattle.lensmodel.specs.ComputedBoxes.{GivesInForms}
 use Rattle.lensmodel.specs.ComputedRows.{Gives, place, headed, about, ones, tenths}
-use Rattle.lensmodel.specs.Values.{plane}
+use Rattle.lensmodel.specs.Setup.Values.{plane}
 use Rattle.lensmodel.specs.Worked.{flat_name, flat_glass, far_object, setup_of}
 use Rattle.lensmodel.specs.WorkedRow.{span}
 use Rattle.lensmodel.specs.declared.glass.Medium.TheVariants.{Air, Of}

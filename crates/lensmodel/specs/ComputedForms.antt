@@ -6,7 +6,7 @@ use Rattle.lensmodel.specs.ComputedAspheres.{asphere_setup, bent}
 use Rattle.lensmodel.specs.ComputedBoxes.{GivesInForms, boxed}
 use Rattle.lensmodel.specs.ComputedRows.{outcome, place, headed, about, ones, tenths, ray_sloped}
 use Rattle.lensmodel.specs.Worked.{level_ray, rim_setup, glass_setup, plane_setup, sphere_setup, slanted_ray}
-use Rattle.lensmodel.specs.Outcome.{Outcome, outcome_at, row_of}
+use Rattle.lensmodel.specs.Rows.Outcome.{Outcome, outcome_at, row_of}
 use Rattle.lensmodel.specs.WorkedRow.{span}
 use Rattle.lensmodel.specs.declared.launch.Launch.{Launch}
 use Rattle.lensmodel.specs.declared.row.Word.TheVariants.{Passes, Vignetted, Outside, Tir, Undecided}

@@ -9,11 +9,11 @@ use Rattle.lensmodel.specs.ComputedAspheres.{asphere_setup, bent}
 use Rattle.lensmodel.specs.ComputedFolds.{folded_setup, skew_ray, decimal}
 use Rattle.lensmodel.specs.ComputedRows.{Gives, place, headed, about, ones, tenths}
 use Rattle.lensmodel.specs.Worked.{level_ray}
-use Rattle.lensmodel.specs.CrossingRows.{foot_rows}
-use Rattle.lensmodel.specs.Preparation.{preparation_rows}
-use Rattle.lensmodel.specs.SlopeRounds.{window_row, pruned, hulls, zone2_of, round_rows}
-use Rattle.lensmodel.specs.StartRows.{start_rows}
-use Rattle.lensmodel.specs.Values.{zero_decimal, plane}
+use Rattle.lensmodel.specs.Rows.Crossing.{foot_rows}
+use Rattle.lensmodel.specs.Rows.Preparation.{preparation_rows}
+use Rattle.lensmodel.specs.Rows.SlopeRounds.{window_row, pruned, hulls, zone2_of, round_rows}
+use Rattle.lensmodel.specs.Rows.Start.{start_rows}
+use Rattle.lensmodel.specs.Setup.Values.{zero_decimal, plane}
 use Rattle.lensmodel.specs.WorkedRow.{span}
 use Rattle.lensmodel.specs.declared.launch.Launch.{Launch}
 use Rattle.lensmodel.specs.declared.launch.Launch.TheVariants.{Plain}

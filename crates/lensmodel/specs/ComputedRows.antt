@@ -3,8 +3,8 @@ use Rattle.std.specs.Prelude.{◌≡◌, ℕ, ℤ, pos, negsuc, neg_ℤ, [], ◌
 use Rattle.fixdec.specs.Decimal.{Decimal}
 use Rattle.fixdec.specs.Ends.{Ends}
 use Rattle.fixdec.specs.IntervalOperations.{operations}
-use Rattle.lensmodel.specs.Outcome.{Outcome, outcome_at, row_of}
-use Rattle.lensmodel.specs.Values.{zero_decimal, plane}
+use Rattle.lensmodel.specs.Rows.Outcome.{Outcome, outcome_at, row_of}
+use Rattle.lensmodel.specs.Setup.Values.{zero_decimal, plane}
 use Rattle.lensmodel.specs.Worked.{far_object, setup_of, plane_setup, slanted_ray, sphere_setup, axis_ray, glass_setup, rim_setup, level_ray, mirror_setup}
 use Rattle.lensmodel.specs.WorkedRow.{span, slanted_vertex, slanted_image, axis_vertex, axis_image}
 use Rattle.lensmodel.specs.declared.glass.Medium.TheVariants.{Air}

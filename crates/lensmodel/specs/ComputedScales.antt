@@ -4,8 +4,8 @@ use Rattle.fixdec.specs.IntervalOperations.{operations}
 use Rattle.fixdec.specs.declared.step.Why.TheVariants.{Zero, Range}
 use Rattle.lensmodel.specs.ComputedRows.{row_in_intervals, outcome, place, headed, about, bounded_by, ones, tenths, ray_sloped, plane_before}
 use Rattle.lensmodel.specs.Worked.{level_ray, rim_setup, glass_setup, plane_setup, sphere_setup, slanted_ray, axis_ray}
-use Rattle.lensmodel.specs.Constants.{residual_units}
-use Rattle.lensmodel.specs.Outcome.{outcome_at}
+use Rattle.lensmodel.specs.Rows.Constants.{residual_units}
+use Rattle.lensmodel.specs.Rows.Outcome.{outcome_at}
 use Rattle.lensmodel.specs.WorkedRow.{span}
 use Rattle.lensmodel.specs.declared.row.Place.{Place}
 use Rattle.lensmodel.specs.declared.row.Word.TheVariants.{Passes, Vignetted, Undecided, Wide, Lost}

@@ -2,11 +2,11 @@
 use Rattle.std.specs.Prelude.{◌≡◌, ℕ, pos, negsuc, ◌≤◌, false, None}
 use Rattle.fixdec.specs.Frac.{◌≈◌, ◌≤Q◌, whole}
 use Rattle.fixdec.specs.Member.{Symbols}
-use Rattle.fixdec.specs.OrderLaws.{zero_le_one}
-use Rattle.lensmodel.specs.Chain.{Chain, index_behind}
-use Rattle.lensmodel.specs.Chains.{IsChainTo, IsChainPast, Clears}
-use Rattle.lensmodel.specs.Media.{equal_media, has_tolerance}
-use Rattle.lensmodel.specs.Values.{curvature, distance, tolerances}
+use Rattle.fixdec.specs.Algebra.OrderLaws.{zero_le_one}
+use Rattle.lensmodel.specs.Equations.Chain.{Chain, index_behind}
+use Rattle.lensmodel.specs.Equations.Chains.{IsChainTo, IsChainPast, Clears}
+use Rattle.lensmodel.specs.Setup.Media.{equal_media, has_tolerance}
+use Rattle.lensmodel.specs.Setup.Values.{curvature, distance, tolerances}
 use Rattle.lensmodel.specs.declared.launch.Launch.{Launch}
 use Rattle.lensmodel.specs.declared.setup.Setup.{Setup}
 use Rattle.lensmodel.specs.declared.tolerance.TolKind.TheVariants.{Indx}

@@ -1,11 +1,11 @@
 -- Lenses, books and jobs that join, and cross checks that refuse them.
 use Rattle.std.specs.Prelude.{◌≡◌, ℕ, pos, negsuc, codes, List, [], ◌∷◌, map, Option, Some, None, Ok, Err}
 use Rattle.fixdec.specs.Decimal.{Decimal}
-use Rattle.lensmodel.specs.JobValue.{JobValue}
-use Rattle.lensmodel.specs.Joining.{joined}
+use Rattle.lensmodel.specs.Setup.JobValue.{JobValue}
+use Rattle.lensmodel.specs.Files.Joining.{joined}
 use Rattle.lensmodel.specs.SmallLenses.{dec, tenths, toleranced}
 use Rattle.lensmodel.specs.Worked.{flat_glass, far_object, plane_setup, mirror_setup}
-use Rattle.lensmodel.specs.Values.{plane, zero_decimal}
+use Rattle.lensmodel.specs.Setup.Values.{plane, zero_decimal}
 use Rattle.lensmodel.specs.declared.fault.CrossFault.TheVariants.{NoGlass, Formula, NoWave, WaveRange, BadIndex, MirrorIndex}
 use Rattle.lensmodel.specs.declared.prescription.Prescription.{Prescription}
 

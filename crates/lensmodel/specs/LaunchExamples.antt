@@ -1,8 +1,8 @@
 -- The rays that small fans and grids ask for.
 use Rattle.std.specs.Prelude.{◌≡◌, pos, negsuc, [], ◌∷◌}
 use Rattle.fixdec.specs.Decimal.{Decimal}
-use Rattle.lensmodel.specs.Launches.{launches, job_launches, part, middle}
-use Rattle.lensmodel.specs.Values.{zero_decimal}
+use Rattle.lensmodel.specs.Setup.Launches.{launches, job_launches, part, middle}
+use Rattle.lensmodel.specs.Setup.Values.{zero_decimal}
 use Rattle.lensmodel.specs.declared.job.Ask.TheVariants.{Fan, Spot, First}
 use Rattle.lensmodel.specs.declared.launch.Launch.{Launch}
 use Rattle.lensmodel.specs.declared.launch.Launch.TheVariants.{Pupil}

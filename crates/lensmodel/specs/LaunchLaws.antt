@@ -6,7 +6,7 @@ use Rattle.std.proofs.lemmas.Option.{slice_get-map, slice_get_within}
 use Rattle.std.specs.Option.{option_map}
 use Rattle.std.specs.Prelude.{ℤ, pos, neg_ℤ, ◌+ℤ◌, ◌-ℤ◌, map, flat_map, slice_get, Some}
 use Rattle.fixdec.specs.Decimal.{Decimal}
-use Rattle.lensmodel.specs.Launches.{launches, count, fan, grid, numbers_from, part, parts, middle}
+use Rattle.lensmodel.specs.Setup.Launches.{launches, count, fan, grid, numbers_from, part, parts, middle}
 use Rattle.lensmodel.specs.declared.job.Ask.{Ask}
 use Rattle.lensmodel.specs.declared.job.Ask.TheVariants.{Ray, Aim, Fan, Spot, First, Seidel}
 use Rattle.lensmodel.specs.declared.launch.Launch.{Launch}

@@ -8,11 +8,11 @@ use Rattle.fixdec.specs.Operations.{Operations}
 use Rattle.fixdec.specs.declared.step.Step.{Step}
 use Rattle.fixdec.specs.declared.step.Step.TheVariants.{Val, Lost}
 use Rattle.fixdec.specs.declared.step.Why.TheVariants.{Root, Zero}
-use Rattle.lensmodel.specs.FirstOrderRows.{first_attempt, first_order}
-use Rattle.lensmodel.specs.SeidelRows.{sums_attempt, seidel_sums}
+use Rattle.lensmodel.specs.Paraxial.FirstOrderRows.{first_attempt, first_order}
+use Rattle.lensmodel.specs.Paraxial.SeidelRows.{sums_attempt, seidel_sums}
 use Rattle.lensmodel.specs.SmallLenses.{whole_dec, tenths, interval}
 use Rattle.lensmodel.specs.Worked.{plane_setup, sphere_setup, mirror_setup}
-use Rattle.lensmodel.specs.Values.{zero_decimal}
+use Rattle.lensmodel.specs.Setup.Values.{zero_decimal}
 
 -- the square of an index of 1.5, widened by the residual, and its root
 abbrev pub index_square : Ends

@@ -2,12 +2,12 @@
 use Rattle.std.specs.Prelude.{◌≡◌, ℕ, pos, negsuc, true, false, List, [], ◌∷◌, map, Some, None}
 use Rattle.fixdec.specs.Decimal.{Decimal}
 use Rattle.fixdec.specs.Zone.{norm}
-use Rattle.lensmodel.specs.Media.{equal_media}
+use Rattle.lensmodel.specs.Setup.Media.{equal_media}
 use Rattle.lensmodel.specs.SmallLenses.{dec, whole_dec, interval, mirror, asphere, folded_lens, toleranced}
 use Rattle.lensmodel.specs.Worked.{far_object, plane_setup}
-use Rattle.lensmodel.specs.Values.{plane, zero_decimal, owner, travel}
-use Rattle.lensmodel.specs.WholeFaults.{whole_fault}
-use Rattle.lensmodel.specs.Zones.{surface_zone, surface_norm, scaled_coefficient}
+use Rattle.lensmodel.specs.Setup.Values.{plane, zero_decimal, owner, travel}
+use Rattle.lensmodel.specs.Setup.WholeFaults.{whole_fault}
+use Rattle.lensmodel.specs.Setup.Zones.{surface_zone, surface_norm, scaled_coefficient}
 use Rattle.lensmodel.specs.declared.fault.ZmxFault.TheVariants.{TooFewSurfaces, StopCount, MirrorAtObject, InnerInfinity, NoZone, Coefficient}
 use Rattle.lensmodel.specs.declared.prescription.Prescription.{Prescription}
 use Rattle.lensmodel.specs.declared.surface.Surface.{Surface}

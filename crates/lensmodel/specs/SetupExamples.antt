@@ -2,15 +2,15 @@
 use Rattle.std.specs.Prelude.{◌≡◌, pos, negsuc, true, false, [], ◌∷◌, map, Some}
 use Rattle.fixdec.specs.Frac.{whole}
 use Rattle.fixdec.specs.IntervalOperations.{operations}
-use Rattle.lensmodel.specs.Chains.{IsInside}
-use Rattle.lensmodel.specs.Constants.{residual_units}
-use Rattle.lensmodel.specs.Picking.{is_good_index}
-use Rattle.lensmodel.specs.Preparation.{index_row}
-use Rattle.lensmodel.specs.Ranges.{is_width, is_residual, is_fan, is_grid, has_place}
+use Rattle.lensmodel.specs.Equations.Chains.{IsInside}
+use Rattle.lensmodel.specs.Rows.Constants.{residual_units}
+use Rattle.lensmodel.specs.Files.Picking.{is_good_index}
+use Rattle.lensmodel.specs.Rows.Preparation.{index_row}
+use Rattle.lensmodel.specs.Setup.Ranges.{is_width, is_residual, is_fan, is_grid, has_place}
 use Rattle.lensmodel.specs.SmallLenses.{dec, whole_dec, tenths, toleranced}
 use Rattle.lensmodel.specs.Worked.{mirror_setup}
-use Rattle.lensmodel.specs.Values.{zero_decimal}
-use Rattle.lensmodel.specs.WellFormed.{IsWellFormed}
+use Rattle.lensmodel.specs.Setup.Values.{zero_decimal}
+use Rattle.lensmodel.specs.Setup.WellFormed.{IsWellFormed}
 use Rattle.lensmodel.specs.declared.tolerance.TolKind.TheVariants.{Curv, Thic, Indx}
 
 -- a mirror alone

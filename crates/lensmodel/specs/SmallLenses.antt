@@ -2,7 +2,7 @@
 use Rattle.std.specs.Prelude.{ℤ, ℕ, pos, negsuc, true, [], ◌∷◌, Some}
 use Rattle.fixdec.specs.Decimal.{Decimal}
 use Rattle.fixdec.specs.Ends.{Ends}
-use Rattle.lensmodel.specs.Values.{plane}
+use Rattle.lensmodel.specs.Setup.Values.{plane}
 use Rattle.lensmodel.specs.declared.glass.Medium.TheVariants.{Air, Of}
 use Rattle.lensmodel.specs.declared.setup.Setup.{Setup}
 use Rattle.lensmodel.specs.declared.surface.Surface.{Surface}

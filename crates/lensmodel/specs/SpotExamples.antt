@@ -5,7 +5,7 @@ use Rattle.fixdec.specs.declared.step.Step.{Step}
 use Rattle.fixdec.specs.declared.step.Step.TheVariants.{Val, Lost}
 use Rattle.fixdec.specs.declared.step.Why.TheVariants.{Range}
 use Rattle.lensmodel.specs.SmallLenses.{interval}
-use Rattle.lensmodel.specs.SpotRows.{Landing, centroid_rows, spread_rows, centroid, mean_square}
+use Rattle.lensmodel.specs.Rows.Spot.{Landing, centroid_rows, spread_rows, centroid, mean_square}
 use Rattle.lensmodel.specs.declared.row.Row.{Row}
 use Rattle.lensmodel.specs.declared.row.Word.{Word}
 use Rattle.lensmodel.specs.declared.row.Word.TheVariants.{Passes, Wide}

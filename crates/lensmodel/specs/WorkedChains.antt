@@ -2,7 +2,7 @@
 use Rattle.std.specs.Prelude.{ℕ, zero, suc, ℤ, pos, negsuc, ◌-◌, ◌^◌}
 use Rattle.fixdec.specs.Frac.{Frac, ◌*Q◌, whole}
 use Rattle.fixdec.specs.Member.{Symbols}
-use Rattle.lensmodel.specs.Chain.{Chain}
+use Rattle.lensmodel.specs.Equations.Chain.{Chain}
 
 -- a at the start, b at surface 1, c from surface 2 on
 abbrev pub by_surface : Frac → Frac → Frac → ℕ → Frac

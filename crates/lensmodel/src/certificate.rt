@@ -55,7 +55,7 @@ pub struct Cert {
 }
 
 impl Model for Cert {
-    ghost use Rattle.lensmodel.specs.CertValue.{CertValue};
+    ghost use Rattle.lensmodel.specs.Files.CertValue.{CertValue};
 
     ghost Value = { CertValue };
 

@@ -92,7 +92,7 @@ pub struct Job {
 }
 
 impl Model for Job {
-    ghost use Rattle.lensmodel.specs.JobValue.{JobValue};
+    ghost use Rattle.lensmodel.specs.Setup.JobValue.{JobValue};
 
     ghost Value = { JobValue };
 

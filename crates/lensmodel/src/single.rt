@@ -1,7 +1,7 @@
 //! Setups of one surface, between an object and the image.
 
 ghost use Rattle.std.specs.Prelude.{◌≡◌, [], ◌∷◌};
-ghost use Rattle.lensmodel.specs.Values.{plane, zero_decimal};
+ghost use Rattle.lensmodel.specs.Setup.Values.{plane, zero_decimal};
 ghost use Rattle.lensmodel.specs.Worked.{flat_name, flat_glass, far_object, rim_plane, setup_of, sphere_setup};
 
 use crate::glass::{Glass, Medium};

@@ -3,12 +3,12 @@
 ghost use Rattle.std.specs.Prelude.{◌≡◌, pos, negsuc, IsTrue, IsFalse};
 ghost use Rattle.fixdec.specs.Frac.{Frac, ◌≈◌, ◌≤Q◌, ◌<Q◌, ◌+Q◌, whole};
 ghost use Rattle.fixdec.specs.Member.{Symbols};
-ghost use Rattle.lensmodel.specs.Chains.{IsChainTo, IsWhole, Clears, ClearsAll};
-ghost use Rattle.lensmodel.specs.Claims.{HoldsPlace, HoldsHeading, WordHolds};
-ghost use Rattle.lensmodel.specs.Crossing.{zone_of};
-ghost use Rattle.lensmodel.specs.Media.{equal_media};
-ghost use Rattle.lensmodel.specs.Residual.{IsWithin};
-ghost use Rattle.lensmodel.specs.Values.{surface_at, owner, travel, eps};
+ghost use Rattle.lensmodel.specs.Equations.Chains.{IsChainTo, IsWhole, Clears, ClearsAll};
+ghost use Rattle.lensmodel.specs.Claims.RowClaims.{HoldsPlace, HoldsHeading, WordHolds};
+ghost use Rattle.lensmodel.specs.Equations.Crossing.{zone_of};
+ghost use Rattle.lensmodel.specs.Setup.Media.{equal_media};
+ghost use Rattle.lensmodel.specs.Equations.Residual.{IsWithin};
+ghost use Rattle.lensmodel.specs.Setup.Values.{surface_at, owner, travel, eps};
 ghost use Rattle.lensmodel.specs.Worked.{whole_decimal, plane_setup, slanted_ray, sphere_setup, axis_ray, glass_setup, steep_ray, rim_setup, level_ray, high_height, low_height, mirror_setup, bowl_setup, bowl_ray};
 ghost use Rattle.lensmodel.specs.WorkedChains.{slanted_chain, slanted_to, axis_chain, height_chain, steep_chain, level_chain, mirror_chain, bowl_near, bowl_far};
 ghost use Rattle.lensmodel.specs.WorkedRow.{slanted_vertex, slanted_heading, slanted_image, axis_vertex, axis_heading, axis_image};

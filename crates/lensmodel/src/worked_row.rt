@@ -1,7 +1,7 @@
 //! The row that is printed of a worked ray.
 
 ghost use Rattle.std.specs.Prelude.{◌≡◌};
-ghost use Rattle.lensmodel.specs.Claims.{RowHolds};
+ghost use Rattle.lensmodel.specs.Claims.RowClaims.{RowHolds};
 ghost use Rattle.lensmodel.specs.Worked.{plane_setup, slanted_ray};
 ghost use Rattle.lensmodel.specs.WorkedRow.{slanted_row};
 

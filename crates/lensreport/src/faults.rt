@@ -2,7 +2,7 @@
 
 ghost use Rattle.std.specs.Prelude.{◌≡◌, ◌+◌, ◌≤◌, ◌++◌, [], length};
 ghost use Rattle.arrayvec.specs.ArrayString.{array_string_len};
-ghost use Rattle.lensmodel.specs.FaultText as spec;
+ghost use Rattle.lensmodel.specs.Texts.FaultText as spec;
 
 use crate::pieces::{Line, push_number};
 use lensmodel::fault::{AgfFault, CrossFault, TextFault};

@@ -2,11 +2,11 @@
 use Rattle.std.proofs.Common.{◌≡◌, ℕ, Bool, true, false, List, length, Option, Some, None, Result, Ok, Err, refl, if◌then◌else◌}
 use Rattle.std.specs.Prelude.{nat_lt}
 use Rattle.fixdec.specs.Decimal.{Decimal}
-use Rattle.lensmodel.specs.Catalogue.{catalogue}
-use Rattle.lensmodel.specs.FaultText.{too_long_line}
-use Rattle.lensmodel.specs.IndexMeaning.{PrintsIndex, Means}
-use Rattle.lensmodel.specs.Picking.{picked, index_at_12}
-use Rattle.lensmodel.specs.TopCall.{Files, Answer, Command, index, glass, answer, on_file, on_book, on_glass, printed_index, index_answer, command_answer, command_of, outcome}
+use Rattle.lensmodel.specs.Files.Catalogue.{catalogue}
+use Rattle.lensmodel.specs.Texts.FaultText.{too_long_line}
+use Rattle.lensmodel.specs.Call.IndexMeaning.{PrintsIndex, Means}
+use Rattle.lensmodel.specs.Files.Picking.{picked, index_at_12}
+use Rattle.lensmodel.specs.Call.TopCall.{Files, Answer, Command, index, glass, answer, on_file, on_book, on_glass, printed_index, index_answer, command_answer, command_of, outcome}
 use Rattle.lensmodel.specs.declared.fault.AgfFault.{AgfFault}
 use Rattle.lensmodel.specs.declared.fault.CrossFault.{CrossFault}
 use Rattle.lensmodel.specs.declared.glass.Glass.{Glass}

@@ -5,8 +5,8 @@ use Rattle.std.proofs.lemmas.Bool.{le-ltb, lt-ltb}
 use Rattle.lensio.specs.Held.{Holds, HoldsMore, Lacks}
 use Rattle.lensio.specs.declared.transfer.SlurpFault.{SlurpFault}
 use Rattle.lensio.specs.declared.transfer.SlurpFault.TheVariants as slurped
-use Rattle.lensmodel.specs.FaultText.{usage_line, too_long_line, read_fault_line}
-use Rattle.lensmodel.specs.TopCall.{Files, Answer, answer, Command, index, glass, command_of, files_of, command_answer, on_file, outcome}
+use Rattle.lensmodel.specs.Texts.FaultText.{usage_line, too_long_line, read_fault_line}
+use Rattle.lensmodel.specs.Call.TopCall.{Files, Answer, answer, Command, index, glass, command_of, files_of, command_answer, on_file, outcome}
 use Rattle.lensmodel.specs.declared.status.FileKind.{FileKind}
 use Rattle.lensmodel.specs.declared.status.FileKind.TheVariants.{Agf}
 use Rattle.lensmodel.specs.declared.status.Status.TheVariants.{Usage, TooLong, ReadFault}

@@ -3,7 +3,7 @@ use Rattle.std.proofs.Common.{◌≡◌, ◌≢◌, ◌⊎◌, ℕ, List, refl, 
 use Rattle.std.specs.Prelude.{Result, Ok, Err}
 use Rattle.dispers.specs.Picked.{picked-is}
 use Rattle.fixdec.specs.Decimal.{Decimal}
-use Rattle.lensmodel.specs.Picking.{picked, medium_of}
+use Rattle.lensmodel.specs.Files.Picking.{picked, medium_of}
 use Rattle.lensmodel.specs.declared.fault.AgfFault.{AgfFault}
 use Rattle.lensmodel.specs.declared.fault.AgfFault.TheVariants as agf
 use Rattle.lensmodel.specs.declared.fault.CrossFault.{CrossFault}

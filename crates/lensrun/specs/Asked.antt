@@ -1,7 +1,7 @@
 -- What words ask for, as it was taken from them.
 use Rattle.std.specs.Prelude.{ℕ, pos, ◌<ℤ◌, List, length, nat_le, Option, Some, None, if◌then◌else◌}
 use Rattle.arrayvec.specs.ArrayVec.{ArrayVec}
-use Rattle.lensmodel.specs.TopCall.{Command as Asked, index, glass}
+use Rattle.lensmodel.specs.Call.TopCall.{Command as Asked, index, glass}
 use Rattle.lensrun.specs.declared.words.Command.{Command}
 use Rattle.lensrun.specs.declared.words.Command.TheVariants.{Index, Glass}
 

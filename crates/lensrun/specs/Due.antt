@@ -4,11 +4,11 @@ use Rattle.lensio.specs.Count.{Rose}
 use Rattle.lensio.specs.Taken.{Takes, TakesFront}
 use Rattle.lensio.specs.declared.transfer.SlurpFault.{SlurpFault}
 use Rattle.lensio.specs.declared.transfer.SlurpFault.TheVariants as slurped
-use Rattle.lensmodel.specs.Catalogue.{catalogue}
-use Rattle.lensmodel.specs.FaultText.{absent_line, read_fault_line, too_long_line}
-use Rattle.lensmodel.specs.Picking.{picked}
-use Rattle.lensmodel.specs.Printed.{book_text}
-use Rattle.lensmodel.specs.TopCall.{Answer, answer, Command, index, glass, on_book, on_glass}
+use Rattle.lensmodel.specs.Files.Catalogue.{catalogue}
+use Rattle.lensmodel.specs.Texts.FaultText.{absent_line, read_fault_line, too_long_line}
+use Rattle.lensmodel.specs.Files.Picking.{picked}
+use Rattle.lensmodel.specs.Texts.Printed.{book_text}
+use Rattle.lensmodel.specs.Call.TopCall.{Answer, answer, Command, index, glass, on_book, on_glass}
 use Rattle.lensmodel.specs.declared.glass.Glass.{Glass}
 use Rattle.lensmodel.specs.declared.status.FileKind.{FileKind}
 use Rattle.lensmodel.specs.declared.status.Status.{Status}

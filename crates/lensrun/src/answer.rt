@@ -1,8 +1,8 @@
 //! What a command answers over its catalogue.
 
 ghost use Rattle.std.specs.Prelude.{◌≡◌, pos, ◌<ℤ◌};
-ghost use Rattle.lensmodel.specs.Picking.{picked};
-ghost use Rattle.lensmodel.specs.TopCall.{on_glass};
+ghost use Rattle.lensmodel.specs.Files.Picking.{picked};
+ghost use Rattle.lensmodel.specs.Call.TopCall.{on_glass};
 ghost use Rattle.lensrun.specs.Asked.{asked, HasWavelength};
 ghost use Rattle.lensrun.specs.Due.{due_answer, IsDueOrNothing, book_answer, bytes_answer};
 ghost use Rattle.lensrun.specs.Usable.{IsUsableMedium, medium_answer};

@@ -2,7 +2,7 @@
 
 ghost use Rattle.std.specs.Prelude.{◌≡◌, ◌≢◌, ◌+◌, ◌<◌, map};
 ghost use Rattle.lensio.specs.Count.{Rose, RoseBy};
-ghost use Rattle.lensmodel.specs.TopCall as top;
+ghost use Rattle.lensmodel.specs.Call.TopCall as top;
 ghost use Rattle.lensrun.specs.Due.{due_answer};
 ghost use Rattle.lensrun.specs.Promise.{OfFiles, IsDecided, IsReadFaultLine};
 

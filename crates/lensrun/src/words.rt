@@ -1,7 +1,7 @@
 //! The words of a call.
 
 ghost use Rattle.std.specs.Prelude.{◌≡◌, map, [], ◌∷◌, IfSome};
-ghost use Rattle.lensmodel.specs.TopCall as top;
+ghost use Rattle.lensmodel.specs.Call.TopCall as top;
 ghost use Rattle.lensmodel.specs.declared.status.FileKind.TheVariants.{Agf};
 ghost use Rattle.lensrun.specs.Asked.{asked, asked_if, HasWavelength, name_within};
 

@@ -5,7 +5,7 @@ use Rattle.std.proofs.lemmas.Bool.{ltb-false, false≢true}
 use Rattle.std.proofs.lemmas.List.{take-append-le, drop-append-le, drop_at, take_all, length-take, at_drop_all}
 use Rattle.lensmodel.specs.declared.fault.TextFault.{TextFault}
 use Rattle.lensmodel.specs.declared.fault.TextFault.TheVariants.{OddByte, Surrogate, LongLine}
-use Rattle.lensmodel.specs.TextLines.{has_lone, units, lines, line_fault, first_fault, or_else, ok_unless, is_odd, text}
+use Rattle.lensmodel.specs.Files.TextLines.{has_lone, units, lines, line_fault, first_fault, or_else, ok_unless, is_odd, text}
 use Rattle.lenstext.specs.Cuts.{cut, Fits}
 
 -- the last of some places, or the one before them

@@ -3,7 +3,7 @@ use Rattle.std.proofs.Common.{◌≡◌, ◌≢◌, ◌++◌, append_assoc, ℕ,
 use Rattle.std.specs.Prelude.{if◌then◌else◌, slice_range}
 use Rattle.std.proofs.lemmas.Bool.{ne_eqb}
 use Rattle.std.proofs.lemmas.List.{take_more}
-use Rattle.lensmodel.specs.TextLines.{lines, onto_first}
+use Rattle.lensmodel.specs.Files.TextLines.{lines, onto_first}
 
 lines-more : (u : ℕ) (us : List ℕ) → u ≢ 10 → lines (u ∷ us) ≡ onto_first u (lines us)
 unfolding lines

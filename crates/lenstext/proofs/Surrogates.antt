@@ -1,7 +1,7 @@
 -- Surrogates of a line, one unit at a time.
 use Rattle.std.proofs.Common.{◌≡◌, ◌≢◌, ℕ, Bool, true, false, ◌||◌, not, List, ◌∷◌, refl, ap, sym, ◌∙◌, arith}
 use Rattle.std.proofs.lemmas.Bool.Decides.{leb_tells}
-use Rattle.lensmodel.specs.TextLines.{has_lone, is_high, is_low}
+use Rattle.lensmodel.specs.Files.TextLines.{has_lone, is_high, is_low}
 
 -- a unit that ends a pair begins none
 pub low-not_high : (u : ℕ) → is_low u ≡ true → is_high u ≡ false

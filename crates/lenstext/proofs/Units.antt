@@ -1,7 +1,7 @@
 -- Pairs of bytes.
 use Rattle.std.proofs.Common.{◌≡◌, Bool, true, false, ℕ, zero, suc, ◌+◌, ◌*◌, ◌/◌, ◌<◌, List, [], ◌∷◌, length, get_or, refl, ap, sym, ◌∙◌, arith}
 use Rattle.std.specs.Prelude.{if◌then◌else◌}
-use Rattle.lensmodel.specs.TextLines.{pairs}
+use Rattle.lensmodel.specs.Files.TextLines.{pairs}
 
 pub length-pairs : (bytes : List ℕ) → length (pairs bytes) ≡ length bytes / 2
 length-pairs [] = refl

@@ -3,7 +3,7 @@ use Rattle.std.proofs.Common.{◌≡◌, ℕ, zero, suc, ◌+◌, ◌-◌, ◌<�
 use Rattle.std.specs.Prelude.{if◌then◌else◌, slice_range}
 use Rattle.std.proofs.lemmas.Bool.{le-ltb, le-leb}
 use Rattle.std.proofs.lemmas.List.{at_drop_more, at_drop_all, length-take-le, take-map, take_at, take_all, append-nil}
-use Rattle.lensmodel.specs.TextLines.{onto_first, is_space, pieces, words, without_empty as filled}
+use Rattle.lensmodel.specs.Files.TextLines.{onto_first, is_space, pieces, words, without_empty as filled}
 use Rattle.lenstext.specs.Ranges.{places, without_empty, ranges_from, word_ranges}
 
 pieces-space : (u : ℕ) (us : List ℕ) → is_space u ≡ true → pieces (u ∷ us) ≡ [] ∷ pieces us

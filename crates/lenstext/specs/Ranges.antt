@@ -1,6 +1,6 @@
 -- Where the words of a line stand.
 use Rattle.std.specs.Prelude.{ℕ, ◌+◌, nat_lt, List, [], ◌∷◌, length, drop, if◌then◌else◌}
-use Rattle.lensmodel.specs.TextLines.{pieces}
+use Rattle.lensmodel.specs.Files.TextLines.{pieces}
 
 -- where each piece starts and ends, the first at a given place, with one separator between two
 abbrev pub places : ℕ → List (List ℕ) → List (ℕ × ℕ)

@@ -1,7 +1,7 @@
 //! One line: what may be wrong with it, and where its words stand.
 
 ghost use Rattle.std.specs.Prelude.{◌≡◌, ℕ, ◌+◌, ◌<◌, ◌≤◌, false, None, Some, [], ◌∷◌, length, slice_index, IfOk, IfErr, OnOk, IfSome, MatchOption};
-ghost use Rattle.lensmodel.specs.TextLines.{has_lone, is_high, is_low, is_space, line_fault};
+ghost use Rattle.lensmodel.specs.Files.TextLines.{has_lone, is_high, is_low, is_space, line_fault};
 ghost use Rattle.lenstext.specs.Ranges.{ranges_from};
 
 use lensmodel::fault::TextFault;

@@ -2,7 +2,7 @@
 
 ghost use Rattle.std.specs.Prelude.{◌≡◌, ◌==◌, ◌≢◌, ◌+◌, ◌^◌, ◌<◌, ◌≤◌, true, false, ◌∷◌, ◌++◌, length, drop, slice_index, slice_range, IfOk, IfErr, OnOk, IsTrue, if◌then◌else◌};
 ghost use Rattle.std.specs.List.{count_by};
-ghost use Rattle.lensmodel.specs.TextLines.{units, lines, is_odd, is_wide, pairs};
+ghost use Rattle.lensmodel.specs.Files.TextLines.{units, lines, is_odd, is_wide, pairs};
 
 use lensmodel::fault::TextFault;
 use std::marker::Model;
@@ -16,7 +16,7 @@ pub struct Source<'a> {
 
 impl<'a> Model for Source<'a> {
     ghost use Rattle.std.specs.Prelude.{List, ℕ, ◌*◌, ◌<◌, ◌≡◌, ◌^◌, length, if◌then◌else◌, IsTrue};
-    ghost use Rattle.lensmodel.specs.TextLines.{pairs};
+    ghost use Rattle.lensmodel.specs.Files.TextLines.{pairs};
 
     ghost Value = { List ℕ };
 

@@ -2,7 +2,7 @@
 
 ghost use Rattle.std.specs.Prelude.{◌≡◌, ◌≢◌, ◌+◌, ◌<◌, ◌≤◌, Ok, Err, None, Some, [], ◌∷◌, ◌++◌, length, drop, take, map, slice_range, slice_index_or, IfOk, IfErr, OnOk, vec_len};
 ghost use Rattle.std.specs.List.{All};
-ghost use Rattle.lensmodel.specs.TextLines.{text, lines, words, line_fault, first_fault};
+ghost use Rattle.lensmodel.specs.Files.TextLines.{text, lines, words, line_fault, first_fault};
 ghost use Rattle.lenstext.specs.Cuts.{start_of};
 ghost use Rattle.lenstext.specs.Ranges.{word_ranges};
 

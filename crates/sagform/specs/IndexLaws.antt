@@ -4,17 +4,17 @@ use Rattle.std.specs.Prelude.{ℤ, pos}
 use Rattle.fixdec.specs.Decimal.{Decimal, value}
 use Rattle.fixdec.specs.Ends.{Ends}
 use Rattle.fixdec.specs.Frac.{Frac, ◌≈◌, ◌≤Q◌, ◌+Q◌, ◌*Q◌, ◌-Q◌, whole}
-use Rattle.fixdec.specs.FracLaws.{≈_sym, ≈_trans}
-use Rattle.fixdec.specs.Linear.{linear, no_fact, reads}
+use Rattle.fixdec.specs.Algebra.FracLaws.{≈_sym, ≈_trans}
+use Rattle.fixdec.specs.Algebra.Linear.{linear, no_fact, reads}
 use Rattle.fixdec.specs.Member.{IsMember, Symbols, units}
 use Rattle.fixdec.specs.Operations.{Operations, IsLawful}
-use Rattle.fixdec.specs.OrderLaws.{le_of_lt}
+use Rattle.fixdec.specs.Algebra.OrderLaws.{le_of_lt}
 use Rattle.fixdec.specs.Steps.{OnVal, OnVal-then, OnVal-map}
 use Rattle.fixdec.specs.declared.step.Step.{Step}
-use Rattle.lensmodel.specs.Constants.{decimal_row, whole_row}
-use Rattle.lensmodel.specs.Dispersion.{IsFormula, IsIndex, IsResonance, IsKnown}
-use Rattle.lensmodel.specs.IndexRows.{schott_rows, sellmeier_rows, resonance_row, formula_rows, index_rows}
-use Rattle.lensmodel.specs.RowLaws.{decimal_member, whole_member, near_within}
+use Rattle.lensmodel.specs.Rows.Constants.{decimal_row, whole_row}
+use Rattle.lensmodel.specs.Equations.Dispersion.{IsFormula, IsIndex, IsResonance, IsKnown}
+use Rattle.lensmodel.specs.Rows.Index.{schott_rows, sellmeier_rows, resonance_row, formula_rows, index_rows}
+use Rattle.lensmodel.specs.Rows.Laws.{decimal_member, whole_member, near_within}
 use Rattle.lensmodel.specs.declared.glass.Glass.{Glass}
 use Rattle.lensmodel.specs.declared.glass.Medium.{Medium}
 use Rattle.lensmodel.specs.declared.glass.Medium.TheVariants.{Air, Of}

@@ -2,9 +2,9 @@
 
 ghost use Rattle.std.specs.Prelude.{◌≡◌, pos, ◌≤◌, ◌≤ℤ◌};
 ghost use Rattle.fixdec.specs.Ends.{InCap};
-ghost use Rattle.lensmodel.specs.Constants as constants;
-ghost use Rattle.lensmodel.specs.Dispersion.{IsKnown};
-ghost use Rattle.lensmodel.specs.IndexRows as rows;
+ghost use Rattle.lensmodel.specs.Rows.Constants as constants;
+ghost use Rattle.lensmodel.specs.Equations.Dispersion.{IsKnown};
+ghost use Rattle.lensmodel.specs.Rows.Index as rows;
 ghost use Rattle.sagform.specs.IndexLaws.{EnclosesIndex};
 
 use enclose::arith::Arith;

@@ -1,7 +1,7 @@
 //! Indices with the values that an independent program of the same rules gives, and one count.
 
 ghost use Rattle.std.specs.Prelude.{◌≡◌, ◌⊎◌, pos, negsuc, ◌<◌, ◌≤◌, ◌≤ℤ◌};
-ghost use Rattle.lensmodel.specs.Dispersion.{IsKnown};
+ghost use Rattle.lensmodel.specs.Equations.Dispersion.{IsKnown};
 
 use crate::index::index;
 use crate::steps::Steps;

@@ -1,8 +1,8 @@
 use Rattle.std.proofs.Common.{◌≡◌, [], ap, sym, ◌∙◌, refl}
 use Rattle.std.specs.Prelude.{None}
 use Rattle.fixdec.specs.Reading.{decimal_of, split}
-use Rattle.lensmodel.specs.Records.{decimal_or_0}
-use Rattle.lensmodel.specs.TextLines.{words}
+use Rattle.lensmodel.specs.Files.Records.{decimal_or_0}
+use Rattle.lensmodel.specs.Files.TextLines.{words}
 use Rattle.agfread.proofs.Cut.{no_word_at}
 use Rattle.agfread.proofs.number.number.Goals as goal
 

@@ -4,8 +4,8 @@ use lib.IntN.{neg_ℤ}
 use Rattle.std.proofs.lemmas.Int.{ints}
 use Rattle.std.proofs.lemmas.Bool.{lt-leb}
 use Rattle.std.proofs.Math.Nat.{pow-succ', suc-mul}
-use Rattle.lensmodel.specs.Catalogue.{small_number}
-use Rattle.lensmodel.specs.Records.{whole_at}
+use Rattle.lensmodel.specs.Files.Catalogue.{small_number}
+use Rattle.lensmodel.specs.Files.Records.{whole_at}
 use Rattle.agfread.proofs.number.small_whole.Goals as goal
 
 -- a hundred or more is not small

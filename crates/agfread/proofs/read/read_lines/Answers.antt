@@ -1,8 +1,8 @@
 use Rattle.std.proofs.Common.{◌≡◌, ℕ, List, ◌<◌, ◌≤◌, length, take, map, slice_range, sym, ap, subst, ◌∙◌, refl, arith}
 use Rattle.std.specs.List.{All}
 use Rattle.std.specs.Prelude.{Ok, Some}
-use Rattle.lensmodel.specs.Records.{each_words}
-use Rattle.lensmodel.specs.TextLines.{words}
+use Rattle.lensmodel.specs.Files.Records.{each_words}
+use Rattle.lensmodel.specs.Files.TextLines.{words}
 use Rattle.agfread.proofs.Lines.{stepped, offended, finished, if_ok, err_and}
 use Rattle.agfread.proofs.read.read_lines.Goals as goal
 

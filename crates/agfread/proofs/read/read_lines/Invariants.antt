@@ -1,5 +1,5 @@
 use Rattle.std.proofs.Common.{◌≤◌, length, take}
-use Rattle.lensmodel.specs.Records.{each_words}
+use Rattle.lensmodel.specs.Files.Records.{each_words}
 use Rattle.agfread.specs.Readers.{IsAt}
 use Rattle.agfread.proofs.Lines.{NoneBefore}
 use Rattle.agfread.proofs.read.read_lines.Given as goal

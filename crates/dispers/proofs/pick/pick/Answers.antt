@@ -1,4 +1,4 @@
-use Rattle.lensmodel.specs.Picking.{picked}
+use Rattle.lensmodel.specs.Files.Picking.{picked}
 use Rattle.dispers.proofs.Sound.{picked-sound}
 use Rattle.dispers.proofs.pick.pick.Goals as goal
 

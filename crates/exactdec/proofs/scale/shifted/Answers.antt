@@ -3,7 +3,7 @@ use Rattle.std.proofs.lemmas.Int.{to_z-of_z}
 use Rattle.std.specs.Int.{w128}
 use Rattle.fixdec.specs.Decimal.{Decimal, value, ten_power}
 use Rattle.fixdec.specs.Frac.{◌≈◌, ◌*Q◌}
-use Rattle.fixdec.specs.PowerLaws.{dec_shifted-zero, dec_shifted-some, value-shifted}
+use Rattle.fixdec.specs.Algebra.PowerLaws.{dec_shifted-zero, dec_shifted-some, value-shifted}
 use Rattle.fixdec.specs.Scaled.{dec_shifted}
 use Rattle.exactdec.proofs.Texts.{fits_mant, fits_exp}
 use Rattle.exactdec.proofs.Spans.{fits_shift, zero_from_bits}

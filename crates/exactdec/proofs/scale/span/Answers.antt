@@ -4,7 +4,7 @@ use Rattle.std.specs.Int.{w32}
 use Rattle.fixdec.specs.Decimal.{value}
 use Rattle.fixdec.specs.Ends.{Ends}
 use Rattle.fixdec.specs.Member.{IsMember}
-use Rattle.fixdec.specs.PowerLaws.{dec_span_member, dec_floor_is, dec_ceil_is}
+use Rattle.fixdec.specs.Algebra.PowerLaws.{dec_span_member, dec_floor_is, dec_ceil_is}
 use Rattle.fixdec.specs.Scaled.{dec_span, dec_floor, dec_ceil}
 use Rattle.fixdec.specs.Steps.{OnVal}
 use Rattle.fixdec.specs.declared.step.Step.{Step}

@@ -1,6 +1,6 @@
 use Rattle.std.proofs.Common.{◌≡◌, take}
 use Rattle.std.specs.Prelude.{map}
-use Rattle.lensmodel.specs.Media.{upper}
+use Rattle.lensmodel.specs.Setup.Media.{upper}
 use Rattle.glassbook.proofs.book.upper_name.Given as goal
 
 abbrev pub invariant-loop-unit : goal.invariant-loop-unit

@@ -1,4 +1,4 @@
-use Rattle.fixdec.specs.FracLaws.{≈_refl}
+use Rattle.fixdec.specs.Algebra.FracLaws.{≈_refl}
 use Rattle.lensmodel.proofs.Rest.{curvature_at_rest, distance_at_rest, index_at_rest}
 use Rattle.lensmodel.proofs.laws.values_at_rest.Goals as goal
 

@@ -1,9 +1,9 @@
 use Rattle.std.proofs.Common.{rules, ◌≡◌, sym, subst}
 use Rattle.std.specs.Prelude.{pos}
 use Rattle.fixdec.specs.Frac.{◌≈◌}
-use Rattle.lensmodel.specs.Chains.{IsWhole}
-use Rattle.lensmodel.specs.Crossing.{zone_of}
-use Rattle.lensmodel.specs.Values.{surface_at}
+use Rattle.lensmodel.specs.Equations.Chains.{IsWhole}
+use Rattle.lensmodel.specs.Equations.Crossing.{zone_of}
+use Rattle.lensmodel.specs.Setup.Values.{surface_at}
 use Rattle.lensmodel.specs.Worked.{bowl_setup, bowl_ray}
 use Rattle.lensmodel.specs.WorkedChains.{bowl_near, bowl_far}
 use Rattle.lensmodel.proofs.Bowl.{bowl_zone, bowl_near_whole, bowl_far_whole}

@@ -1,5 +1,5 @@
 use Rattle.std.proofs.Common.{rules, ◌≡◌, sym, subst}
-use Rattle.lensmodel.specs.Chains.{IsWhole}
+use Rattle.lensmodel.specs.Equations.Chains.{IsWhole}
 use Rattle.lensmodel.specs.Worked.{sphere_setup, axis_ray}
 use Rattle.lensmodel.specs.WorkedChains.{axis_chain}
 use Rattle.lensmodel.proofs.Axis.{axis_whole, axis_vertex_holds, axis_heading_holds, axis_image_holds}

@@ -1,6 +1,6 @@
 use Rattle.std.proofs.Common.{rules, ◌≡◌, sym, subst}
 use Rattle.std.specs.Prelude.{pos}
-use Rattle.lensmodel.specs.Chains.{IsWhole}
+use Rattle.lensmodel.specs.Equations.Chains.{IsWhole}
 use Rattle.lensmodel.specs.Worked.{sphere_setup, level_ray, whole_decimal}
 use Rattle.lensmodel.specs.WorkedChains.{height_chain}
 use Rattle.lensmodel.proofs.Height.{height_whole}

@@ -1,5 +1,5 @@
 use Rattle.std.proofs.Common.{rules, ◌≡◌, sym, subst}
-use Rattle.lensmodel.specs.Claims.{WordHolds}
+use Rattle.lensmodel.specs.Claims.RowClaims.{WordHolds}
 use Rattle.lensmodel.specs.Worked.{rim_setup, level_ray, high_height}
 use Rattle.lensmodel.specs.declared.row.Word.TheVariants.{Vignetted}
 use Rattle.lensmodel.proofs.Level.{high_vignetted}

@@ -1,9 +1,9 @@
 use Rattle.std.proofs.Common.{rules, ◌≡◌, sym, subst}
 use Rattle.std.specs.Prelude.{pos}
 use Rattle.fixdec.specs.Frac.{◌≤Q◌, ◌<Q◌, whole}
-use Rattle.lensmodel.specs.Chains.{IsWhole, Clears, ClearsAll}
-use Rattle.lensmodel.specs.Residual.{IsWithin}
-use Rattle.lensmodel.specs.Values.{eps}
+use Rattle.lensmodel.specs.Equations.Chains.{IsWhole, Clears, ClearsAll}
+use Rattle.lensmodel.specs.Equations.Residual.{IsWithin}
+use Rattle.lensmodel.specs.Setup.Values.{eps}
 use Rattle.lensmodel.specs.Worked.{rim_setup, level_ray, whole_decimal}
 use Rattle.lensmodel.specs.WorkedChains.{level_chain}
 use Rattle.lensmodel.proofs.Rim.{level_whole, at_rim_clears, past_rim_misses}

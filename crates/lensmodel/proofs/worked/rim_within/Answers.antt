@@ -1,5 +1,5 @@
 use Rattle.std.proofs.Common.{rules, ◌≡◌, sym, subst}
-use Rattle.lensmodel.specs.Claims.{WordHolds}
+use Rattle.lensmodel.specs.Claims.RowClaims.{WordHolds}
 use Rattle.lensmodel.specs.Worked.{rim_setup, level_ray, low_height}
 use Rattle.lensmodel.specs.declared.row.Word.TheVariants.{Passes}
 use Rattle.lensmodel.proofs.Level.{low_passes}

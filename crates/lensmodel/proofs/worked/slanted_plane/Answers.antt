@@ -1,9 +1,9 @@
 use Rattle.std.proofs.Common.{rules, ◌≡◌, sym, subst}
 use Rattle.std.specs.Prelude.{pos}
 use Rattle.fixdec.specs.Frac.{◌+Q◌, whole}
-use Rattle.lensmodel.specs.Chains.{IsWhole}
-use Rattle.lensmodel.specs.Residual.{IsWithin}
-use Rattle.lensmodel.specs.Values.{eps}
+use Rattle.lensmodel.specs.Equations.Chains.{IsWhole}
+use Rattle.lensmodel.specs.Equations.Residual.{IsWithin}
+use Rattle.lensmodel.specs.Setup.Values.{eps}
 use Rattle.lensmodel.specs.Worked.{plane_setup, slanted_ray}
 use Rattle.lensmodel.specs.WorkedChains.{slanted_chain, slanted_to}
 use Rattle.lensmodel.proofs.Residuals.{height_within, height_beyond}

@@ -1,6 +1,6 @@
 use Rattle.std.proofs.Common.{rules, ◌≡◌, sym, subst}
-use Rattle.lensmodel.specs.Chains.{IsChainTo}
-use Rattle.lensmodel.specs.Claims.{WordHolds}
+use Rattle.lensmodel.specs.Equations.Chains.{IsChainTo}
+use Rattle.lensmodel.specs.Claims.RowClaims.{WordHolds}
 use Rattle.lensmodel.specs.Worked.{glass_setup, steep_ray}
 use Rattle.lensmodel.specs.WorkedChains.{steep_chain}
 use Rattle.lensmodel.specs.declared.row.Word.TheVariants.{Tir}

@@ -1,5 +1,5 @@
 use Rattle.std.proofs.Common.{rules, ◌≡◌, sym, subst}
-use Rattle.lensmodel.specs.Claims.{RowHolds}
+use Rattle.lensmodel.specs.Claims.RowClaims.{RowHolds}
 use Rattle.lensmodel.specs.Worked.{plane_setup, slanted_ray}
 use Rattle.lensmodel.specs.WorkedRow.{slanted_row}
 use Rattle.lensmodel.specs.declared.row.Word.TheVariants.{Passes}

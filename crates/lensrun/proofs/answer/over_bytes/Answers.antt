@@ -1,5 +1,5 @@
 use Rattle.std.proofs.Common.{sym, ap, ◌∙◌, inl, inr}
-use Rattle.lensmodel.specs.TopCall.{on_book}
+use Rattle.lensmodel.specs.Call.TopCall.{on_book}
 use Rattle.lensrun.specs.Asked.{asked}
 use Rattle.lensrun.specs.Due.{book_answer}
 use Rattle.lensrun.proofs.Usability.{cases_memory}

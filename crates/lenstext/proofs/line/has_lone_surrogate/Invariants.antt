@@ -1,5 +1,5 @@
 use Rattle.std.proofs.Common.{◌≡◌, false, drop}
-use Rattle.lensmodel.specs.TextLines.{has_lone}
+use Rattle.lensmodel.specs.Files.TextLines.{has_lone}
 use Rattle.lenstext.proofs.line.has_lone_surrogate.Given as goal
 
 abbrev pub invariant-loop-unit : goal.invariant-loop-unit

@@ -1,5 +1,5 @@
 use Rattle.std.proofs.Common.{◌≡◌, ℕ, ◌<◌, ◌≤◌, false, get_or}
-use Rattle.lensmodel.specs.TextLines.{is_space}
+use Rattle.lensmodel.specs.Files.TextLines.{is_space}
 use Rattle.lenstext.proofs.line.word_end.Given as goal
 
 abbrev pub invariant-loop-at : goal.invariant-loop-at

@@ -1,6 +1,6 @@
 use Rattle.std.proofs.Common.{◌≡◌, ◌≤◌, ◌+◌, ℕ, [], ◌∷◌, ◌++◌, drop, length, ap, sym, ◌∙◌, arith, rules}
 use Rattle.std.specs.Prelude.{slice_range, vec_len}
-use Rattle.lensmodel.specs.TextLines.{lines, line_fault, first_fault}
+use Rattle.lensmodel.specs.Files.TextLines.{lines, line_fault, first_fault}
 use Rattle.std.proofs.lemmas.Result.{err_from_is_err_and}
 use Rattle.lenstext.proofs.Cutting.{Kept-start, Kept-push, Kept-fault, Kept-whole, Kept-sound, text-ok, text-fault, text-odd}
 use Rattle.lenstext.proofs.text.decode.Goals as goal

@@ -1,7 +1,7 @@
 use Rattle.std.proofs.Common.{ℕ, ◌<◌, length, slice_range, List, sym, ap, ◌∙◌, arith}
 use Rattle.std.specs.Prelude.{slice_index_or}
-use Rattle.lensmodel.specs.Records.{word_at}
-use Rattle.lensmodel.specs.TextLines.{words}
+use Rattle.lensmodel.specs.Files.Records.{word_at}
+use Rattle.lensmodel.specs.Files.TextLines.{words}
 use Rattle.agfread.specs.declared.record.Record.{Record}
 use Rattle.agfread.proofs.Cut.{cut_count, word_at-take, word_at-map}
 use Rattle.agfread.proofs.record.Record.known_word.Goals as goal

@@ -1,5 +1,5 @@
 use Rattle.std.proofs.Common.{ℕ, slice_range, rules}
-use Rattle.lensmodel.specs.TextLines.{words}
+use Rattle.lensmodel.specs.Files.TextLines.{words}
 use Rattle.agfread.proofs.Cut.{cut_count}
 use Rattle.agfread.proofs.record.Record.lacks.Goals as goal
 

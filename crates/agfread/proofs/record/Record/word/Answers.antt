@@ -1,8 +1,8 @@
 use Rattle.std.proofs.Common.{ℕ, ◌<◌, length, map, slice_range, List, sym, ap, ◌∙◌, arith}
 use Rattle.std.specs.Prelude.{slice_index_or}
 use Rattle.std.proofs.lemmas.List.{length-map}
-use Rattle.lensmodel.specs.Records.{word_at}
-use Rattle.lensmodel.specs.TextLines.{words}
+use Rattle.lensmodel.specs.Files.Records.{word_at}
+use Rattle.lensmodel.specs.Files.TextLines.{words}
 use Rattle.agfread.specs.Records.{has_word}
 use Rattle.agfread.proofs.Cut.{has_word-take, word_at-take, has_no_word, has_word-below, word_at-map}
 use Rattle.agfread.proofs.record.Record.word.Goals as goal

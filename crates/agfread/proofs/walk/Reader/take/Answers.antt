@@ -1,5 +1,5 @@
 use Rattle.std.proofs.Common.{sym, ◌∙◌}
-use Rattle.lensmodel.specs.TextLines.{words}
+use Rattle.lensmodel.specs.Files.TextLines.{words}
 use Rattle.agfread.proofs.Steps.{NM-step, CD-step, LD-step, other-step, other_tag, on_ok2, on_ok4}
 use Rattle.agfread.proofs.walk.Reader.take.Goals as goal
 

@@ -1,7 +1,7 @@
 use Rattle.std.proofs.Common.{◌≡◌, ◌∙◌, ap, sym, true, false, subst, true≢false}
 use Rattle.std.specs.Prelude.{Option, Some, None, IsTrue, is_some, refl}
 use Rattle.std.specs.Map.{lookup}
-use Rattle.lensmodel.specs.Catalogue.{find_glass}
+use Rattle.lensmodel.specs.Files.Catalogue.{find_glass}
 use Rattle.glassbook.specs.Keys.{same_key, lookup-keyed, IsKeyed, IsKeyed-append}
 use Rattle.glassbook.proofs.book.GlassBook.add.Goals as goal
 

@@ -1,6 +1,6 @@
 use Rattle.std.proofs.Common.{◌∙◌, ap}
 use Rattle.std.specs.Map.{lookup}
-use Rattle.lensmodel.specs.Catalogue.{find_glass}
+use Rattle.lensmodel.specs.Files.Catalogue.{find_glass}
 use Rattle.glassbook.specs.Keys.{same_key, lookup-keyed}
 use Rattle.glassbook.proofs.book.GlassBook.find.Goals as goal
 

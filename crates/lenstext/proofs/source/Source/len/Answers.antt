@@ -1,6 +1,6 @@
 use Rattle.std.proofs.Common.{◌≡◌, Bool, ap, sym, ◌∙◌, ◌/◌, length, arith}
 use Rattle.std.specs.Prelude.{if◌then◌else◌}
-use Rattle.lensmodel.specs.TextLines.{pairs}
+use Rattle.lensmodel.specs.Files.TextLines.{pairs}
 use Rattle.lenstext.proofs.Units.{length-pairs}
 use Rattle.lenstext.proofs.source.Source.len.Goals as goal
 

@@ -1,6 +1,6 @@
 use Rattle.std.proofs.Common.{◌≡◌, ◌<◌, ◌+◌, ◌*◌, Bool, List, ℕ, ap, sym, ◌∙◌, length, get_or, arith, rules}
 use Rattle.std.specs.Prelude.{if◌then◌else◌}
-use Rattle.lensmodel.specs.TextLines.{pairs}
+use Rattle.lensmodel.specs.Files.TextLines.{pairs}
 use Rattle.lenstext.proofs.Units.{length-pairs, get_or-pairs}
 use Rattle.lenstext.proofs.source.Source.unit.Goals as goal
 

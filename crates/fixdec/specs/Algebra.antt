@@ -1,0 +1,21 @@
+-- The algebra that proofs use: integers and fractions as rings, their orders, and members of intervals. No contract needs a reader to believe it.
+pub mod Expressions
+pub mod FracLaws
+pub mod IntLaws
+pub mod Ints
+pub mod Inverse
+pub mod Linear
+pub mod MemberLaws
+pub mod NearRoot
+pub mod Order
+pub mod OrderLaws
+pub mod PowerLaws
+pub mod Products
+pub mod Quotients
+pub mod Ring
+pub mod RingLaws
+pub mod RootLaws
+pub mod Roots
+pub mod RoundingLaws
+pub mod Terms
+pub mod Within

@@ -1,0 +1,2 @@
+pub mod IndexMeaning
+pub mod TopCall

@@ -1,0 +1,9 @@
+pub mod Comparison
+pub mod JobValue
+pub mod Launches
+pub mod Media
+pub mod Ranges
+pub mod Values
+pub mod WellFormed
+pub mod WholeFaults
+pub mod Zones
