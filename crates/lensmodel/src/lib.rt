@@ -2,14 +2,11 @@
 #![tactic(auto)]
 
 pub mod certificate;
-pub mod computed;
 pub mod corner;
-pub mod examples;
 pub mod fault;
 pub mod glass;
 pub mod job;
 pub mod launch;
-pub mod laws;
 pub mod name;
 pub mod paraxial;
 pub mod prescription;
@@ -17,9 +14,6 @@ pub mod row;
 pub mod script;
 pub mod seen;
 pub mod setup;
-mod single;
 pub mod status;
 pub mod surface;
 pub mod tolerance;
-pub mod worked;
-pub mod worked_row;

@@ -1,0 +1,45 @@
+-- Worked aspheres, by computing.
+use Rattle.std.proofs.Common.{ℕ, refl}
+use Rattle.fixdec.specs.Interval.{iv_size}
+use Rattle.fixdec.specs.IntervalOperations.{operations}
+use Rattle.fixdec.specs.Zone.{zone, norm, least_power}
+use Rattle.examples.specs.ComputedAspheres.{SphericalHeight, BentHeight, PastZone, AtZone, BowlLost, BowlRoot, BowlAsConic, spherical, bent, bowl, paraboloid, steep_ray, asphere_setup}
+use Rattle.examples.specs.ComputedRows.{ones, tenths}
+use Rattle.examples.specs.Worked.{level_ray}
+use Rattle.lensmodel.specs.Rows.Sag.{sag_rows}
+use Rattle.lensmodel.specs.Rows.SlopeRounds.{round_rows}
+use Rattle.examples.proofs.ComputedRows.{opened, row_by_trying}
+use Rattle.examples.proofs.TriedCells.{asphere_by_trying, asphere_row_by_trying}
+
+-- what is opened to compute the outcome of an even asphere
+unfoldable pub opened_aspheres : ℕ
+unfolding opened operations iv_size zone norm least_power sag_rows round_rows
+opened_aspheres = 0
+
+pub spherical_height : SphericalHeight
+unfolding opened_aspheres
+spherical_height = asphere_by_trying 6 (asphere_setup spherical) (level_ray (ones 6)) _ refl
+
+pub bent_height : BentHeight
+unfolding opened_aspheres
+bent_height = asphere_by_trying 6 (asphere_setup bent) (level_ray (ones 6)) _ refl
+
+pub past_zone : PastZone
+unfolding opened_aspheres
+past_zone = asphere_by_trying 6 (asphere_setup bent) (level_ray (ones 9)) _ refl
+
+pub at_zone : AtZone
+unfolding opened_aspheres
+at_zone = asphere_by_trying 6 (asphere_setup bent) (level_ray (tenths 88)) _ refl
+
+pub bowl_lost : BowlLost
+unfolding opened_aspheres
+bowl_lost = asphere_row_by_trying (asphere_setup bowl) steep_ray _ refl
+
+pub bowl_as_conic : BowlAsConic
+unfolding opened
+bowl_as_conic = row_by_trying (asphere_setup paraboloid) steep_ray _ refl
+
+pub bowl_root : BowlRoot
+unfolding opened_aspheres
+bowl_root = asphere_by_trying 12 (asphere_setup bowl) steep_ray _ refl

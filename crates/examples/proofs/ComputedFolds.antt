@@ -1,0 +1,15 @@
+-- A ray folded twice, by computing.
+use Rattle.std.proofs.Common.{refl}
+use Rattle.std.specs.Prelude.{Some}
+use Rattle.examples.specs.ComputedFolds.{FoldedRay, FoldedBox, folded_setup, folded_box, skew_ray}
+use Rattle.examples.proofs.ComputedAspheres.{opened_aspheres}
+use Rattle.examples.proofs.ComputedBoxes.{opened_forms}
+use Rattle.examples.proofs.TriedCells.{asphere_by_trying, asphere_forms_by_trying}
+
+pub folded_ray : FoldedRay
+unfolding opened_aspheres
+folded_ray = asphere_by_trying 6 folded_setup skew_ray _ refl
+
+pub folded_in_box : FoldedBox
+unfolding opened_aspheres opened_forms
+folded_in_box = asphere_forms_by_trying 6 (record folded_setup { toler = Some (record { list = record { items = folded_box } }) }) skew_ray _ refl

@@ -1,0 +1,158 @@
+-- Where a line meets an even asphere, with the cells' arithmetic as an argument.
+use Rattle.std.proofs.Common.{◌≡◌, ℕ, zero, suc, [], ap, sym, subst, ◌∙◌, refl}
+use Rattle.std.proofs.Math.Path.{fun_ext}
+use Rattle.std.specs.Prelude.{ℤ, None}
+use Rattle.fixdec.specs.Ends.{Ends}
+use Rattle.fixdec.specs.Form.{linear_operations}
+use Rattle.fixdec.specs.IntervalOperations.{operations}
+use Rattle.fixdec.specs.Operations.{Operations}
+use Rattle.fixdec.specs.Steps.{◌>>=◌}
+use Rattle.fixdec.specs.declared.step.Step.{Step}
+use Rattle.fixdec.specs.declared.step.Step.TheVariants.{Val, Empty, Lost}
+use Rattle.fixdec.specs.declared.step.Why.TheVariants.{Root}
+use Rattle.examples.specs.ComputedRows.{row_in_intervals}
+use Rattle.lensmodel.specs.Rows.Constants.{residual_units}
+use Rattle.lensmodel.specs.Rows.Crossing.{Met, foot_rows, meet_standard_rows}
+use Rattle.lensmodel.specs.Rows.Hit.{hit_rows, meet_by, point_rows}
+use Rattle.lensmodel.specs.Rows.Outcome.{Outcome, Walked, ends_with, at_hit, at_prepared, walk, started, walked, word_of, places_of, outcome_at, row_of}
+use Rattle.lensmodel.specs.Rows.Preparation.{Prepared, preparation_rows}
+use Rattle.lensmodel.specs.Rows.Sag.{sag_rows}
+use Rattle.lensmodel.specs.Rows.SlopeRounds.{up_to, window_row, is_kept, cells, kept_hull, hulls, zone2_of, round_rows, narrowed, last_answer, meet_asphere_rows}
+use Rattle.lensmodel.specs.Rows.Start.{Incoming, start_rows}
+use Rattle.lensmodel.specs.Setup.Values.{image}
+use Rattle.lensmodel.specs.declared.launch.Launch.{Launch}
+use Rattle.lensmodel.specs.declared.row.Word.TheVariants as word
+use Rattle.lensmodel.specs.declared.setup.Setup.{Setup}
+use Rattle.lensmodel.specs.declared.surface.SurfaceKind.{SurfaceKind}
+use Rattle.lensmodel.specs.declared.surface.SurfaceKind.TheVariants.{Standard, EvenAsph}
+use Rattle.examples.proofs.TriedForms.{linear_by, same_linear}
+use Rattle.examples.proofs.TriedRoots.{operations_by, tried_root, same_operations}
+
+module _ (cell : Operations Ends) (scale : ℕ) where
+  abbrev pub cell_by : Prepared Ends → Ends → Ends → Ends → Ends → Ends → Ends → ℤ → Step Ends
+  cell_by face zone2 x0 y0 p q z e = do
+    x2 ← cell.square (← cell.plus x0 (← cell.times p z))
+    y2 ← cell.square (← cell.plus y0 (← cell.times q z))
+    rho ← cell.clip (← cell.plus x2 y2) (up_to zone2)
+    cell.widen (← sag_rows cell scale face rho e) e
+
+  abbrev pub pruned_by : Prepared Ends → Ends → Ends → Ends → Ends → Ends → ℤ → Ends → Step Ends
+  pruned_by face zone2 x0 y0 p q e a = kept_hull scale (λ z. is_kept scale z (cell_by face zone2 x0 y0 p q z e)) (cells scale a)
+
+module _ {A : Type 0} (cell : Operations Ends) (o : Operations A) (scale : ℕ) where
+  abbrev meet_cells_by : Prepared A → A → A → A → A → ℤ → Step A
+  meet_cells_by face x0 y0 p q e = do
+    w0 ← window_row scale (hulls o scale face) (zone2_of o scale face) e
+    w1 ← pruned_by cell scale (hulls o scale face) (zone2_of o scale face) (o.hull x0) (o.hull y0) (o.hull p) (o.hull q) e w0
+    w2 ← pruned_by cell scale (hulls o scale face) (zone2_of o scale face) (o.hull x0) (o.hull y0) (o.hull p) (o.hull q) e w1
+    w3 ← narrowed o scale w2 (round_rows o scale face x0 y0 p q e w2)
+    w4 ← narrowed o scale w3 (round_rows o scale face x0 y0 p q e w3)
+    w5 ← narrowed o scale w4 (round_rows o scale face x0 y0 p q e w4)
+    last_answer o scale w5 (round_rows o scale face x0 y0 p q e w5)
+
+  abbrev meet_kind_by : SurfaceKind → Prepared A → A → A → A → A → ℤ → Step A
+  meet_kind_by Standard face x0 y0 p q e = meet_standard_rows o scale face x0 y0 p q e
+  meet_kind_by EvenAsph face x0 y0 p q e = meet_cells_by face x0 y0 p q e
+
+  abbrev pub hit_by : Prepared A → Incoming A → ℤ → Step (Met A)
+  hit_by face ray e = do
+    foot ← foot_rows o scale face ray e
+    z ← meet_kind_by face.kind face foot.x0 foot.y0 foot.p foot.q e
+    point_rows o scale face.kind face ray foot z e
+
+same_meet : {A : Type 0} (o : Operations A) (scale : ℕ) (face : Prepared A) (x0 y0 p q : A) (e : ℤ)
+    → meet_cells_by (operations scale) o scale face x0 y0 p q e ≡ meet_asphere_rows o scale face x0 y0 p q e
+unfolding meet_asphere_rows
+same_meet o scale face x0 y0 p q e = refl
+
+same_kinds : {A : Type 0} (o : Operations A) (scale : ℕ) (kind : SurfaceKind) (face : Prepared A) (x0 y0 p q : A) (e : ℤ)
+    → meet_kind_by (operations scale) o scale kind face x0 y0 p q e ≡ meet_by o scale kind face x0 y0 p q e
+same_kinds o scale Standard face x0 y0 p q e = refl
+same_kinds o scale EvenAsph face x0 y0 p q e = same_meet o scale face x0 y0 p q e
+
+same_then : {A B : Type 0} (r : Step A) (f g : A → Step B) → ((a : A) → f a ≡ g a) → r >>= f ≡ r >>= g
+same_then r f g h = ap (λ k. r >>= k) (fun_ext h)
+
+same_hit : {A : Type 0} (o : Operations A) (scale : ℕ) (face : Prepared A) (ray : Incoming A) (e : ℤ)
+    → hit_by (operations scale) o scale face ray e ≡ hit_rows o scale face ray e
+unfolding hit_rows
+same_hit o scale face ray e =
+    same_then (foot_rows o scale face ray e) _ _ (λ foot. ap (λ r. r >>= (λ z. point_rows o scale face.kind face ray foot z e)) (same_kinds o scale face.kind face foot.x0 foot.y0 foot.p foot.q e))
+
+-- ---- a walk with the crossing phase as an argument
+module _ {A : Type 0} (hit : Prepared A → Incoming A → ℤ → Step (Met A)) (o : Operations A) (scale : ℕ) (s : Setup) (e : ℤ) where
+  abbrev at_prepared_by : ℕ → Incoming A → (Incoming A → Walked) → Step (Prepared A) → Walked
+  at_prepared_by j ray go_on (Val face) = at_hit o scale s e j ray face go_on (hit face ray e)
+  at_prepared_by j ray go_on Empty = ends_with (word.Lost (suc j) Root) []
+  at_prepared_by j ray go_on (Lost why) = ends_with (word.Lost (suc j) why) []
+
+  abbrev walk_by : ℕ → ℕ → Incoming A → Walked
+  walk_by zero j ray = record { ended = None; places = [] }
+  walk_by (suc left) j ray = at_prepared_by j ray (λ next. walk_by left (suc j) next) (preparation_rows o scale s e j)
+
+  abbrev started_by : Step (Incoming A) → Walked
+  started_by (Val ray) = walk_by (image s) 0 ray
+  started_by Empty = ends_with (word.Lost 1 Root) []
+  started_by (Lost why) = ends_with (word.Lost 1 why) []
+
+abbrev finished : ℕ → Setup → Walked → Outcome
+finished scale s w = record { scale = scale; word = word_of scale s.width w.ended w.places; places = places_of w.places }
+
+abbrev pub outcome_by : {A : Type 0} → (Prepared A → Incoming A → ℤ → Step (Met A)) → Operations A → ℕ → Setup → Launch → Outcome
+outcome_by hit o scale s ray =
+    finished scale s (started_by hit o scale s (residual_units scale s.res) (start_rows o scale ray (residual_units scale s.res)))
+
+module _ {A : Type 0} (o : Operations A) (scale : ℕ) (s : Setup) (e : ℤ) where
+  same_prepared : (j : ℕ) (ray : Incoming A) (go_on : Incoming A → Walked) (face : Step (Prepared A))
+      → at_prepared_by (hit_rows o scale) o scale s e j ray go_on face ≡ at_prepared o scale s e j ray go_on face
+  same_prepared j ray go_on (Val face) = refl
+  same_prepared j ray go_on Empty = refl
+  same_prepared j ray go_on (Lost why) = refl
+
+  same_walk : (left j : ℕ) (ray : Incoming A) → walk_by (hit_rows o scale) o scale s e left j ray ≡ walk o scale s e left j ray
+  same_walk zero j ray = refl
+  same_walk (suc left) j ray =
+      ap (λ go. at_prepared_by (hit_rows o scale) o scale s e j ray go (preparation_rows o scale s e j)) (fun_ext (same_walk left (suc j)))
+      ∙ same_prepared j ray (walk o scale s e left (suc j)) (preparation_rows o scale s e j)
+
+  same_start : (start : Step (Incoming A)) → started_by (hit_rows o scale) o scale s e start ≡ started o scale s e start
+  same_start (Val ray) = same_walk (image s) 0 ray
+  same_start Empty = refl
+  same_start (Lost why) = refl
+
+same_outcome : {A : Type 0} (o : Operations A) (scale : ℕ) (s : Setup) (ray : Launch)
+    → outcome_by (hit_rows o scale) o scale s ray ≡ outcome_at o scale s ray
+unfolding outcome_at walked
+same_outcome o scale s ray = ap (finished scale s) (same_start o scale s (residual_units scale s.res) (start_rows o scale ray (residual_units scale s.res)))
+
+-- an outcome may be computed with roots that are tried in the cells too
+pub asphere_by_trying : (scale : ℕ) (s : Setup) (ray : Launch) (x : Outcome)
+    → outcome_by (hit_by (operations_by tried_root scale) (operations_by tried_root scale) scale) (operations_by tried_root scale) scale s ray ≡ x
+    → outcome_at (operations scale) scale s ray ≡ x
+asphere_by_trying scale s ray x h =
+    let hits : hit_by (operations scale) (operations scale) scale ≡ hit_rows (operations scale) scale =
+    fun_ext (λ face. fun_ext (λ ray. fun_ext (λ e. same_hit (operations scale) scale face ray e))) in
+    sym (ap (λ hit. outcome_by hit (operations scale) scale s ray) hits ∙ same_outcome (operations scale) scale s ray)
+    ∙ subst (λ o. outcome_by (hit_by (o scale) (o scale) scale) (o scale) scale s ray ≡ x) same_operations h
+
+pub asphere_forms_by_trying : (scale : ℕ) (s : Setup) (ray : Launch) (x : Outcome)
+    → outcome_by (hit_by (operations_by tried_root scale) (linear_by tried_root scale) scale) (linear_by tried_root scale) scale s ray ≡ x
+    → outcome_at (linear_operations scale) scale s ray ≡ x
+asphere_forms_by_trying scale s ray x h =
+    let hits : hit_by (operations scale) (linear_operations scale) scale ≡ hit_rows (linear_operations scale) scale =
+    fun_ext (λ face. fun_ext (λ ray. fun_ext (λ e. same_hit (linear_operations scale) scale face ray e))) in
+    sym (ap (λ hit. outcome_by hit (linear_operations scale) scale s ray) hits ∙ same_outcome (linear_operations scale) scale s ray)
+    ∙ subst (λ c. outcome_by (hit_by (c scale) (linear_operations scale) scale) (linear_operations scale) scale s ray ≡ x) same_operations
+    (subst (λ o. outcome_by (hit_by (operations_by tried_root scale) (o scale) scale) (o scale) scale s ray ≡ x) same_linear h)
+
+-- the row of a ray from such outcomes
+abbrev tried_at : Setup → Launch → ℕ → Outcome
+tried_at s ray scale = outcome_by (hit_by (operations_by tried_root scale) (operations_by tried_root scale) scale) (operations_by tried_root scale) scale s ray
+
+abbrev pub row_of_tried : Setup → Launch → Outcome
+row_of_tried s ray = row_of (tried_at s ray 6) (tried_at s ray 9) (tried_at s ray 12) (tried_at s ray 15)
+
+pub asphere_row_by_trying : (s : Setup) (ray : Launch) (x : Outcome) → row_of_tried s ray ≡ x → row_in_intervals s ray ≡ x
+asphere_row_by_trying s ray x h =
+    let same : (scale : ℕ) → outcome_at (operations scale) scale s ray ≡ tried_at s ray scale = λ scale. asphere_by_trying scale s ray _ refl in
+    ap (λ at. row_of (at 6) (at 9) (at 12) (at 15)) (fun_ext same) ∙ h

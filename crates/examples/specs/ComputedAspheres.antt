@@ -1,0 +1,81 @@
+-- Rows of worked even aspheres in interval arithmetic, number for number.
+use Rattle.std.specs.Prelude.{◌≡◌, pos, negsuc, [], ◌∷◌, Some}
+use Rattle.fixdec.specs.declared.step.Why.TheVariants.{Root, Range}
+use Rattle.examples.specs.ComputedRows.{Gives, row_in_intervals, outcome, place, headed, about, ones, tenths}
+use Rattle.examples.specs.Worked.{level_ray, far_object, setup_of}
+use Rattle.lensmodel.specs.Setup.Values.{zero_decimal, plane}
+use Rattle.examples.specs.WorkedRow.{span}
+use Rattle.lensmodel.specs.declared.glass.Medium.TheVariants.{Air}
+use Rattle.lensmodel.specs.declared.launch.Launch.{Launch}
+use Rattle.lensmodel.specs.declared.launch.Launch.TheVariants.{Plain}
+use Rattle.lensmodel.specs.declared.row.Word.TheVariants.{Passes, Outside, Lost}
+use Rattle.lensmodel.specs.declared.setup.Setup.{Setup}
+use Rattle.lensmodel.specs.declared.surface.Surface.{Surface}
+use Rattle.lensmodel.specs.declared.surface.SurfaceKind.TheVariants.{EvenAsph}
+
+-- an even asphere of curvature 1/10, whose semi-diameter is 8 and whose coefficients are 0: a sphere
+abbrev pub spherical : Surface
+spherical = record plane { kind = EvenAsph; curv = tenths 1; thick = Some record { mant = pos 1; exp = pos 1 }; semi = Some (ones 8) }
+
+-- such a surface in air, and the image 10 behind its vertex
+abbrev pub asphere_setup : Surface → Setup
+asphere_setup surface = setup_of (far_object ∷ surface ∷ plane ∷ []) (Air ∷ Air ∷ [])
+
+-- the second coefficient is 10^-5
+abbrev pub bent : Surface
+bent = record spherical { a2 = record { mant = pos 1; exp = negsuc 4 } }
+
+-- at the height 6 the sag of the sphere is 2
+abbrev pub SphericalHeight : Type 0
+SphericalHeight =
+    Gives 6 (asphere_setup spherical) (level_ray (ones 6)) Passes
+    (headed (place (span (pos 35999916) (pos 36000086)) (about 7) (span (pos 5999993) (pos 6000007)) (span (pos 1999989) (pos 2000011)) (span (pos 1999985) (pos 2000016))) (about 1) (about 1) (span (pos 999999) (pos 1000001))
+    ∷ place (span (pos 35999688) (pos 36000314)) (about 26) (span (pos 5999974) (pos 6000026)) (about 1) (span (pos 9999963) (pos 10000039))
+    ∷ [])
+
+-- and that of the other one 2.01296
+abbrev pub BentHeight : Type 0
+BentHeight =
+    Gives 6 (asphere_setup bent) (level_ray (ones 6)) Passes
+    (headed (place (span (pos 35999916) (pos 36000086)) (about 7) (span (pos 5999993) (pos 6000007)) (span (pos 2012947) (pos 2012973)) (span (pos 2012942) (pos 2012978))) (about 1) (about 1) (span (pos 999999) (pos 1000001))
+    ∷ place (span (pos 35999700) (pos 36000302)) (about 25) (span (pos 5999975) (pos 6000025)) (about 1) (span (pos 9999958) (pos 10000042))
+    ∷ [])
+
+-- a height of 9 is past the zone, which is 8.8
+abbrev pub PastZone : Type 0
+PastZone = Gives 6 (asphere_setup bent) (level_ray (ones 9)) (Outside 1) []
+
+-- a height of 8.8 is the zone itself: rho ends with its square
+abbrev pub AtZone : Type 0
+AtZone =
+    Gives 6 (asphere_setup bent) (level_ray (tenths 88)) Passes
+    (headed (place (span (pos 77439771) (pos 77440000)) (about 13) (span (pos 8799987) (pos 8800013)) (span (pos 5310195) (pos 5310272)) (span (pos 5310187) (pos 5310280))) (about 1) (about 1) (span (pos 999999) (pos 1000001))
+    ∷ place (span (pos 77439560) (pos 77440442)) (about 25) (span (pos 8799975) (pos 8800025)) (about 1) (span (pos 9999907) (pos 10000093))
+    ∷ [])
+
+-- a bowl, of curvature 0 and with the first coefficient 1/10, and a steep ray that crosses it twice
+abbrev pub bowl : Surface
+bowl = record plane { kind = EvenAsph; thick = Some (ones 4); semi = Some (ones 5); a1 = tenths 1 }
+
+abbrev pub steep_ray : Launch
+steep_ray = Plain zero_decimal (record { mant = pos 375; exp = negsuc 2 }) zero_decimal (ones 5)
+
+-- its window makes squares past the cap
+abbrev pub BowlLost : Type 0
+BowlLost = row_in_intervals (asphere_setup bowl) steep_ray ≡ outcome 15 (Lost 1 Range) []
+
+-- the same bowl as a paraboloid: the ray crosses it at the height 1/2, where the sag is 0.025
+abbrev pub paraboloid : Surface
+paraboloid = record plane { curv = tenths 2; conic = record { mant = negsuc 0; exp = pos 0 }; thick = Some (ones 4) }
+
+abbrev pub BowlAsConic : Type 0
+BowlAsConic =
+    row_in_intervals (asphere_setup paraboloid) steep_ray
+    ≡ outcome 9 Passes
+    (headed (place (span (pos 249999970) (pos 250000032)) (about 3) (span (pos 499999970) (pos 500000030)) (span (pos 24999996) (pos 25000004)) (span (pos 127475460) (pos 127475516))) (about 1) (span (pos 980580664) (pos 980580686)) (span (pos 196116133) (pos 196116137))
+    ∷ place (span (pos 415140604951) (pos 415140645051)) (about 29) (span (pos 20374999508) (pos 20375000492)) (about 1) (span (pos 20396077802) (pos 20396078336))
+    ∷ [])
+
+-- at scale 12 its squares are within the cap, and no slope round tells the two crossings apart
+abbrev pub BowlRoot : Type 0
+BowlRoot = Gives 12 (asphere_setup bowl) steep_ray (Lost 1 Root) []

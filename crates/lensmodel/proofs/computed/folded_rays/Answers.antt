@@ -1,8 +1,0 @@
-use Rattle.lensmodel.proofs.ComputedFolds.{folded_ray, folded_in_box}
-use Rattle.lensmodel.proofs.computed.folded_rays.Goals as goal
-
-pub returns-clause-intervals : goal.returns-clause-intervals
-returns-clause-intervals c = folded_ray
-
-pub returns-clause-forms : goal.returns-clause-forms
-returns-clause-forms c = folded_in_box

@@ -1,8 +1,0 @@
-use Rattle.lensmodel.proofs.PrescriptionExamples.{folded, equal}
-use Rattle.lensmodel.proofs.examples.media.Goals as goal
-
-pub returns-clause-folded : goal.returns-clause-folded
-returns-clause-folded c = folded
-
-pub returns-clause-equal : goal.returns-clause-equal
-returns-clause-equal c = equal

@@ -1,5 +1,0 @@
-use Rattle.lensmodel.proofs.Fronts.{reaches_next}
-use Rattle.lensmodel.proofs.laws.chain_fronts.Goals as goal
-
-pub returns-clause-next : goal.returns-clause-next
-returns-clause-next c = reaches_next

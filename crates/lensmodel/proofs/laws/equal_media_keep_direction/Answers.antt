@@ -1,5 +1,0 @@
-use Rattle.lensmodel.proofs.Mirrors.{direction_stays}
-use Rattle.lensmodel.proofs.laws.equal_media_keep_direction.Goals as goal
-
-pub returns : goal.returns
-returns c = direction_stays
