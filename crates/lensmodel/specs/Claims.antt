@@ -1,2 +1,3 @@
+pub mod Enclosure
 pub mod RowClaims
 pub mod SpotClaims

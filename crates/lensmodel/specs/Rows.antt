@@ -10,5 +10,6 @@ pub mod Preparation
 pub mod Ray
 pub mod Sag
 pub mod SlopeRounds
+pub mod Spans
 pub mod Spot
 pub mod Start

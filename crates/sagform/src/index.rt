@@ -86,7 +86,7 @@ fn formula<T: Arith>(g: &Glass, v: T) -> Step<T>
 }
 
 /// The rows of the index.
-#[tactic(auto, unfolding(lensmodel::specs::IndexRows::index_rows))]
+#[tactic(auto, unfolding(lensmodel::specs::Rows::Index::index_rows))]
 fn rows_of<T: Arith>(m: &Medium, wave: Span, e: i128) -> Step<T>
     requires scale { T.SCALE ≤ 15 }
     requires low { pos 0 ≤ℤ e }

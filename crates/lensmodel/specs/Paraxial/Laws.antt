@@ -11,10 +11,9 @@ use Rattle.lensmodel.specs.Rows.Constants.{decimal_row, whole_row}
 use Rattle.lensmodel.specs.Paraxial.FirstOrderRows.{efl_row, minus_over_row, over_row, front_row}
 use Rattle.lensmodel.specs.Paraxial.Trace.{even_coefficient}
 use Rattle.lensmodel.specs.Paraxial.TraceRows.{vertex_curvature_row, slope_behind_row, next_height_row}
-use Rattle.lensmodel.specs.Rows.Preparation.{thickness_of}
 use Rattle.lensmodel.specs.Equations.Residual.{IsWithin}
 use Rattle.lensmodel.specs.Rows.Laws.{Covers, within_right, on_same, decimal_member, whole_member, widened}
-use Rattle.lensmodel.specs.Setup.Values.{written_thickness}
+use Rattle.lensmodel.specs.Setup.Values.{written_thickness, thickness_of}
 use Rattle.lensmodel.specs.declared.setup.Setup.{Setup}
 use Rattle.lensmodel.specs.declared.surface.Surface.{Surface}
 
@@ -42,13 +41,13 @@ module _ {A : Type 0} (scale : ℕ) (o : Operations A) (member : A → Symbols �
       → IsWithin eps Y' (Y +Q written_thickness f.thick *Q U)
       → OnVal (next_height_row o scale f y u e) (λ r. member r sy Y')
   next_height_member f y u Y U Y' hy hu w =
-      let D = value (thickness_of o scale f.thick) in
-      OnVal-then (decimal_row o scale (thickness_of o scale f.thick)) _ (λ a. member a sy D) _ (decimal_member scale o member law sy (thickness_of o scale f.thick)) λ d k1.
+      let D = value (thickness_of f.thick) in
+      OnVal-then (decimal_row o scale (thickness_of f.thick)) _ (λ a. member a sy D) _ (decimal_member scale o member law sy (thickness_of f.thick)) λ d k1.
       OnVal-then (o.times d u) _ (λ a. member a sy (D *Q U)) _ (law.times sy d u D U k1 hu) λ du k2.
       OnVal-then (o.plus y du) _ (λ a. member a sy (Y +Q D *Q U)) _ (law.plus sy y du Y (D *Q U) hy k2) λ t k3.
       widened scale o member law sy eps e covers t (Y +Q D *Q U) Y' k3 (thick f.thick w)
     where
-      thick : (t : Option Decimal) → IsWithin eps Y' (Y +Q written_thickness t *Q U) → IsWithin eps Y' (Y +Q value (thickness_of o scale t) *Q U)
+      thick : (t : Option Decimal) → IsWithin eps Y' (Y +Q written_thickness t *Q U) → IsWithin eps Y' (Y +Q value (thickness_of t) *Q U)
       thick None w = within_right eps Y' _ _ (linear (Y ∷ U ∷ []) _ _ (search reads depth 16) no_fact tt) w
       thick (Some d) w = w
 

@@ -7,8 +7,8 @@ use Rattle.fixdec.specs.declared.step.Step.TheVariants.{Val}
 use Rattle.lensmodel.specs.Rows.Constants.{decimal_row, whole_row}
 use Rattle.lensmodel.specs.Setup.Media.{medium_at}
 use Rattle.lensmodel.specs.Paraxial.Trace.{even_coefficient}
-use Rattle.lensmodel.specs.Rows.Preparation.{medium_row, thickness_of}
-use Rattle.lensmodel.specs.Setup.Values.{surface_at, travel}
+use Rattle.lensmodel.specs.Rows.Preparation.{medium_row}
+use Rattle.lensmodel.specs.Setup.Values.{surface_at, travel, thickness_of}
 use Rattle.lensmodel.specs.declared.setup.Setup.{Setup}
 use Rattle.lensmodel.specs.declared.surface.Surface.{Surface}
 
@@ -47,7 +47,7 @@ module _ {A : Type 0} (o : Operations A) (scale : ℕ) where
   -- next y = wd(y + (d*u'))
   abbrev pub next_height_row : Surface → A → A → ℤ → Step A
   next_height_row f y u e = do
-    o.widen (← o.plus y (← o.times (← decimal_row o scale (thickness_of o scale f.thick)) u)) e
+    o.widen (← o.plus y (← o.times (← decimal_row o scale (thickness_of f.thick)) u)) e
 
   -- the slope behind surface j + 1: the first of cv, n and n' that is lost comes before it
   abbrev pub advanced_slope : Setup → ℤ → ℕ → A → A → Step A

@@ -1,5 +1,6 @@
--- Where a line may meet an even asphere: the window of z, and the cells of it that are kept.
-use Rattle.std.specs.Prelude.{ℕ, zero, suc, ℤ, pos, neg_ℤ, ◌+ℤ◌, ◌-ℤ◌, ◌*ℤ◌, Bool, true, false, ◌&&◌, int_le, List, [], ◌∷◌, if◌then◌else◌}
+-- Where a line may meet an even asphere: the window of z, and the cells of it that are kept. They run in plain intervals.
+-- Cited by the crossing of an even asphere.
+use Rattle.std.specs.Prelude.{ℕ, zero, suc, ℤ, pos, neg_ℤ, ◌+ℤ◌, ◌-ℤ◌, ◌*ℤ◌, Bool, true, false, ◌&&◌, int_le, List, [], ◌∷◌}
 use Rattle.std.specs.Int.{int_min, int_max}
 use Rattle.fixdec.specs.Ends.{Ends}
 use Rattle.fixdec.specs.Interval.{iv_size}
@@ -9,23 +10,50 @@ use Rattle.fixdec.specs.Rounding.{floor}
 use Rattle.fixdec.specs.Steps.{◌>>=◌}
 use Rattle.fixdec.specs.declared.step.Step.{Step}
 use Rattle.fixdec.specs.declared.step.Step.TheVariants.{Val, Empty, Lost}
+use Rattle.lensmodel.specs.Rows.Crossing.{Line, along_row}
 use Rattle.lensmodel.specs.Rows.Preparation.{Prepared}
 use Rattle.lensmodel.specs.Rows.Sag.{sag_rows}
+use Rattle.lensmodel.specs.Rows.Spans.{up_to}
 
--- the point of one number
-abbrev pub point : ℤ → Ends
-point v = record { lo = v; hi = v }
+-- ---- cutting a window
+-- the point i of 64 between the ends of a window
+abbrev pub cut : Ends → ℕ → ℤ
+cut a i = a.lo +ℤ floor ((a.hi -ℤ a.lo) *ℤ pos i) (pos 64)
 
--- the numbers from 0 to the greatest of an interval
-abbrev pub up_to : Ends → Ends
-up_to a = record { lo = pos 0; hi = a.hi }
+-- cell i of a window, from 0 to 63
+abbrev pub cell : Ends → ℕ → Ends
+cell a i = record { lo = cut a i; hi = cut a (suc i) }
 
--- the part that two intervals have in common; Empty where there is none
-abbrev pub common : Ends → Ends → Step Ends
-common a b =
-    if int_le (int_max a.lo b.lo) (int_min a.hi b.hi) then Val (record { lo = int_max a.lo b.lo; hi = int_min a.hi b.hi }) else Empty
+-- n cells of a window, from cell i on
+abbrev pub cells_from : Ends → ℕ → ℕ → List Ends
+cells_from a i zero = []
+cells_from a i (suc n) = cell a i ∷ cells_from a (suc i) n
 
--- the cells run in plain intervals
+abbrev pub cells : Ends → List Ends
+cells a = cells_from a 0 64
+
+-- ---- the hull of the cells that are kept
+-- a cell beside the hull of the kept ones behind it
+abbrev pub hull_with : Ends → Step Ends → Step Ends
+hull_with a (Val b) = Val (record { lo = int_min a.lo b.lo; hi = int_max a.hi b.hi })
+hull_with a Empty = Val a
+hull_with a (Lost why) = Lost why
+
+abbrev pub hull_if : Bool → Ends → Step Ends → Step Ends
+hull_if true a rest = hull_with a rest
+hull_if false a rest = rest
+
+-- the hull of the cells that are kept; Empty where none is
+abbrev pub kept_hull : (Ends → Bool) → List Ends → Step Ends
+kept_hull keeps [] = Empty
+kept_hull keeps (z ∷ more) = hull_if (keeps z) z (kept_hull keeps more)
+
+-- a cell is dropped where a row is Empty, or where W and the cell have no common number; with a Lost row it is kept
+abbrev pub is_kept : Ends → Step Ends → Bool
+is_kept z (Val w) = int_le w.lo z.hi && int_le z.lo w.hi
+is_kept z Empty = false
+is_kept z (Lost why) = true
+
 module _ (scale : ℕ) where
   abbrev intervals : Operations Ends
   intervals = operations scale
@@ -35,49 +63,29 @@ module _ (scale : ℕ) where
   added_sizes sum [] = Val sum
   added_sizes sum (b ∷ more) = intervals.plus sum (iv_size b) >>= λ next. added_sizes next more
 
-  -- Bd = wd(wd(|c|*zone2 + |b1| + .. + |b8|)), and the window [-Bd.hi, Bd.hi]
+  -- Bd = wd(wd(|c|*zone2 + |b1| + .. + |b8|))
+  abbrev pub bound_row : Prepared Ends → Ends → ℤ → Step Ends
+  bound_row face zone2 e = do
+    sum ← added_sizes (← intervals.times (iv_size face.c) zone2) face.b
+    intervals.widen (← intervals.widen sum e) e
+
+  -- the window [-Bd.hi, Bd.hi]
   abbrev pub window_row : Prepared Ends → Ends → ℤ → Step Ends
   window_row face zone2 e = do
-    sum ← added_sizes (← intervals.times (iv_size face.c) zone2) face.b
-    bound ← intervals.widen (← intervals.widen sum e) e
+    bound ← bound_row face zone2 e
     Val record { lo = neg_ℤ bound.hi; hi = bound.hi }
 
   -- W = wd(sag(rho)), rho = sq(x0 + (p*Z)) + sq(y0 + (q*Z)) clipped to [0, zone2.hi]
-  abbrev pub cell_rows : Prepared Ends → Ends → Ends → Ends → Ends → Ends → Ends → ℤ → Step Ends
-  cell_rows face zone2 x0 y0 p q z e = do
-    x2 ← intervals.square (← intervals.plus x0 (← intervals.times p z))
-    y2 ← intervals.square (← intervals.plus y0 (← intervals.times q z))
+  unfoldable pub cell_rows : Prepared Ends → Ends → Line Ends → ℤ → Ends → Step Ends
+  cell_rows face zone2 line e z = do
+    x2 ← intervals.square (← along_row intervals line.x0 line.p z)
+    y2 ← intervals.square (← along_row intervals line.y0 line.q z)
     rho ← intervals.clip (← intervals.plus x2 y2) (up_to zone2)
     intervals.widen (← sag_rows intervals scale face rho e) e
 
-  -- a cell is dropped where a row is Empty, or where W and the cell have no common number; with a Lost row it is kept
-  abbrev pub is_kept : Ends → Step Ends → Bool
-  is_kept z (Val w) = int_le w.lo z.hi && int_le z.lo w.hi
-  is_kept z Empty = false
-  is_kept z (Lost why) = true
+  abbrev pub keeps : Prepared Ends → Ends → Line Ends → ℤ → Ends → Bool
+  keeps face zone2 line e z = is_kept z (cell_rows face zone2 line e z)
 
-  -- the point i of 64 between the ends of a window
-  abbrev pub cut : Ends → ℕ → ℤ
-  cut a i = a.lo +ℤ floor ((a.hi -ℤ a.lo) *ℤ pos i) (pos 64)
-
-  -- the last n of the 64 cells of a window
-  abbrev pub last_cells : Ends → ℕ → ℕ → List Ends
-  last_cells a i zero = []
-  last_cells a i (suc n) = (record { lo = cut a i; hi = cut a (suc i) }) ∷ last_cells a (suc i) n
-
-  abbrev pub cells : Ends → List Ends
-  cells a = last_cells a 0 64
-
-  -- an interval, and the hull of it and another
-  abbrev pub with_hull : Ends → Step Ends → Step Ends
-  with_hull a (Val b) = Val (record { lo = int_min a.lo b.lo; hi = int_max a.hi b.hi })
-  with_hull a Empty = Val a
-  with_hull a (Lost why) = Lost why
-
-  -- the hull of the cells that are kept; Empty where none is
-  abbrev pub kept_hull : (Ends → Bool) → List Ends → Step Ends
-  kept_hull keeps [] = Empty
-  kept_hull keeps (z ∷ more) = if keeps z then with_hull z (kept_hull keeps more) else kept_hull keeps more
-
-  abbrev pub pruned : Prepared Ends → Ends → Ends → Ends → Ends → Ends → ℤ → Ends → Step Ends
-  pruned face zone2 x0 y0 p q e a = kept_hull (λ z. is_kept z (cell_rows face zone2 x0 y0 p q z e)) (cells a)
+  -- what is left of a window
+  unfoldable pub pruned : Prepared Ends → Ends → Line Ends → ℤ → Ends → Step Ends
+  pruned face zone2 line e a = kept_hull (keeps face zone2 line e) (cells a)

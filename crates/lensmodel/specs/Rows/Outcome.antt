@@ -61,8 +61,8 @@ module _ {A : Type 0} (o : Operations A) (scale : ℕ) (s : Setup) (e : ℤ) whe
   is_vignetted rho (Some rim2) = int_lt rim2.hi rho.lo
 
   -- the bending phase of surface j + 1, or the direction that stays
-  abbrev pub leave_rows : Prepared A → Incoming A → Met A → ℕ → Step (Direction A)
-  leave_rows face ray hit j = if equal_media s j then stay_rows o scale face ray else bend_rows o scale face ray hit e
+  abbrev pub departure_rows : Prepared A → Incoming A → Met A → ℕ → Step (Direction A)
+  departure_rows face ray hit j = if equal_media s j then stay_rows o face ray else bend_rows o scale face ray hit e
 
   -- what follows the bending phase of surface j + 1: go_on is the walk of the ray that leaves
   abbrev pub at_left : ℕ → Met A → Passed → (Incoming A → Walked) → Step (Direction A) → Walked
@@ -76,7 +76,7 @@ module _ {A : Type 0} (o : Operations A) (scale : ℕ) (s : Setup) (e : ℤ) whe
       let p : Passed = record { place = place_of h; rim2 = hull_of face.rim2 } in
       if is_vignetted p.place.rho p.rim2 then ends_with (word.Vignetted (suc j)) (p ∷ [])
       else if nat_eq (suc j) (image s) then record { ended = None; places = p ∷ [] }
-      else at_left j h p go_on (leave_rows face ray h j)
+      else at_left j h p go_on (departure_rows face ray h j)
   at_hit j ray face go_on Empty = ends_with (word.Outside (suc j)) []
   at_hit j ray face go_on (Lost why) = ends_with (word.Lost (suc j) why) []
 

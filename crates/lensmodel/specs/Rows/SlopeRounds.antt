@@ -1,27 +1,51 @@
--- Where a line meets an even asphere: four slope rounds over what the cells leave of the window.
-use Rattle.std.specs.Prelude.{ℕ, ℤ, pos, ◌+ℤ◌, int_lt, List, [], ◌∷◌, Option, Some, None, if◌then◌else◌}
+-- Where a line meets an even asphere: four slope rounds over what the cells leave of the window. Cited by the crossing of an
+-- even asphere, and by the claim that two crossings are close.
+use Rattle.std.specs.Prelude.{ℕ, ℤ, pos, int_lt, List, [], ◌∷◌, map, None, if◌then◌else◌}
 use Rattle.fixdec.specs.Ends.{Ends}
 use Rattle.fixdec.specs.Operations.{Operations}
-use Rattle.fixdec.specs.Rounding.{floor}
 use Rattle.fixdec.specs.Steps.{◌>>=◌}
 use Rattle.fixdec.specs.declared.step.Step.{Step}
 use Rattle.fixdec.specs.declared.step.Step.TheVariants.{Val, Empty, Lost}
 use Rattle.fixdec.specs.declared.step.Why.TheVariants.{Root}
-pub use Rattle.lensmodel.specs.Rows.Cells.{point, up_to, common, window_row, cell_rows, is_kept, cut, cells, kept_hull, pruned}
+use Rattle.lensmodel.specs.Rows.Cells.{window_row, pruned}
 use Rattle.lensmodel.specs.Rows.Constants.{whole_row}
+use Rattle.lensmodel.specs.Rows.Crossing.{Line, along_row, rho_row}
 use Rattle.lensmodel.specs.Rows.Preparation.{Prepared}
-use Rattle.lensmodel.specs.Rows.Sag.{horner_rows, first_of}
+use Rattle.lensmodel.specs.Rows.Sag.{horner_rows, first_of, conic_sag_row, sum_row, w_row}
+use Rattle.lensmodel.specs.Rows.Spans.{point, middle, up_to, common, hull_or_zero}
 
--- the value of an option that is there; the ends of 0 where it isn't
-abbrev pub hull_or : {A : Type 0} → (A → Ends) → Option A → Ends
-hull_or hull None = point (pos 0)
-hull_or hull (Some v) = hull v
+-- the points of the line over a window, X, Y and rho, and at its middle z*: X*, Y* and rho*
+pub record Points (A : Type 0) : Type 0 where
+  pub x : A
+  pub mid_x : A
+  pub y : A
+  pub mid_y : A
+  pub rho : A
+  pub mid_rho : A
 
-abbrev pub each : {A B : Type 0} → (A → B) → List A → List B
-each f [] = []
-each f (a ∷ more) = f a ∷ each f more
+-- the conic at the middle: w* and zc*
+pub record MidConic (A : Type 0) : Type 0 where
+  pub w : A
+  pub sag : A
 
-module _ {A : Type 0} (o : Operations A) (scale : ℕ) where
+-- the sag at the middle, S*, and the values V1* to V8*
+pub record MidSag (A : Type 0) : Type 0 where
+  pub sag : A
+  pub values : List A
+
+-- the slope of the residual over the window: m = w + w*, and G
+pub record Slope (A : Type 0) : Type 0 where
+  pub m : A
+  pub g : A
+
+-- what a round's last row needs: z*, S*, m and G
+pub record Round (A : Type 0) : Type 0 where
+  pub middle : A
+  pub sag : A
+  pub m : A
+  pub g : A
+
+module _ {A : Type 0} (o : Operations A) where
   -- the hulls that the cells use
   abbrev pub hulls : Prepared A → Prepared Ends
   hulls face = record {
@@ -35,14 +59,21 @@ module _ {A : Type 0} (o : Operations A) (scale : ℕ) where
     rim2 = None;
     zone2 = None;
     norm = face.norm;
-    b = each o.hull face.b;
+    b = map o.hull face.b;
     sign = face.sign;
     mirror = face.mirror;
   }
 
-  -- the greatest of the zone's square
+  abbrev pub line_hulls : Line A → Line Ends
+  line_hulls line = record { x0 = o.hull line.x0; y0 = o.hull line.y0; p = o.hull line.p; q = o.hull line.q }
+
+  -- the square of the zone
   abbrev pub zone2_of : Prepared A → Ends
-  zone2_of face = hull_or o.hull face.zone2
+  zone2_of face = hull_or_zero o.hull face.zone2
+
+  -- the middle of a window as a value of one number
+  abbrev pub middle_value : Ends → A
+  middle_value a = o.of_span (point (middle a))
 
   -- a value, or Lost Root where its least is below 0
   abbrev pub if_not_below_zero : A → Step A
@@ -52,84 +83,112 @@ module _ {A : Type 0} (o : Operations A) (scale : ℕ) where
   abbrev pub if_above_zero : A → Step A
   if_above_zero g = if int_lt (pos 0) (o.hull g).lo then Val g else Lost Root
 
+  -- X = x0 + (p*Z), X* = x0 + (p*z*), Y and Y* likewise; rho = sq(X) + sq(Y) clipped to the zone, rho* = sq(X*) + sq(Y*)
+  abbrev pub points_rows : Ends → Line A → Ends → Step (Points A)
+  points_rows zone2 line a = do
+    x ← along_row o line.x0 line.p (o.of_span a)
+    mid_x ← along_row o line.x0 line.p (middle_value a)
+    y ← along_row o line.y0 line.q (o.of_span a)
+    mid_y ← along_row o line.y0 line.q (middle_value a)
+    rho ← o.clip (← rho_row o x y) (up_to zone2)
+    mid_rho ← rho_row o mid_x mid_y
+    Val record { x = x; mid_x = mid_x; y = y; mid_y = mid_y; rho = rho; mid_rho = mid_rho }
+
+  -- T = (p*(X + X*)) + (q*(Y + Y*))
+  abbrev pub row_T : Line A → Points A → Step A
+  row_T line at = do
+    o.plus (← o.times line.p (← o.plus at.x at.mid_x)) (← o.times line.q (← o.plus at.y at.mid_y))
+
+  -- B = (c/m) + sh(Q0, D)
+  abbrev pub row_B : Prepared A → A → A → Step A
+  row_B face m q0 = do
+    o.plus (← o.over face.c m) (← o.shift q0 face.norm)
+
+module _ {A : Type 0} (o : Operations A) (scale : ℕ) where
   -- Q7 = V8*, Qi = V(i+1)* + (u*Q(i+1)): the value Qi, for the values from V(i+1)* on
   abbrev pub quotient_row : A → List A → Step A
   quotient_row u [] = whole_row o scale (pos 0)
   quotient_row u (v ∷ []) = Val v
-  quotient_row u (v ∷ v' ∷ more) = do
-    q ← quotient_row u (v' ∷ more)
+  quotient_row u (v ∷ next ∷ more) = do
+    q ← quotient_row u (next ∷ more)
     o.plus v (← o.times u q)
 
-  -- what a slope round takes from the surface at the reference: w*, zc*, S* and the values V1* to V8*
-  pub record Reference : Type 0 where
-    pub w : A
-    pub sag : A
-    pub values : List A
+  -- g* = 1 - (ck*f*), not below 0
+  abbrev pub mid_g_row : Prepared A → A → Step A
+  mid_g_row face f = do
+    if_not_below_zero o (← o.minus (← whole_row o scale (pos 1)) (← o.times face.ck f))
 
-  -- f* = c*rho*, g* = 1 - (ck*f*), w* = rt(wd(g*)), zc* = f*/(1 + w*)
-  abbrev pub reference_w_rows : Prepared A → A → ℤ → Step (A × A)
-  reference_w_rows face rho e = do
+  -- f* = c*rho*, w* = rt(wd(g*)), zc* = f*/(1 + w*)
+  abbrev pub mid_conic_rows : Prepared A → A → ℤ → Step (MidConic A)
+  mid_conic_rows face rho e = do
     f ← o.times face.c rho
-    g ← if_not_below_zero (← o.minus (← whole_row o scale (pos 1)) (← o.times face.ck f))
+    g ← mid_g_row face f
     w ← o.root (← o.widen g e)
-    zc ← o.over f (← o.plus (← whole_row o scale (pos 1)) w)
-    Val (w, zc)
+    zc ← conic_sag_row o scale f w
+    Val record { w = w; sag = zc }
 
   -- S* = zc* + (u* * V1*)
-  abbrev pub reference_sag_rows : Prepared A → A → A → A → Step Reference
-  reference_sag_rows face u w zc = do
-    vs ← horner_rows o scale u face.b
-    sag ← o.plus zc (← o.times u (← first_of o scale vs))
-    Val record { w = w; sag = sag; values = vs }
+  abbrev pub mid_sag_rows : Prepared A → A → A → Step (MidSag A)
+  mid_sag_rows face u zc = do
+    vs ← horner_rows o u face.b
+    sag ← sum_row o zc u (← first_of o scale vs)
+    Val record { sag = sag; values = vs }
 
-  -- G = 1 - (T*B), with m = w + w*, B = (c/m) + sh(Q0, D), T = (p*(X + X*)) + (q*(Y + Y*)); and m
-  abbrev pub slope_rows : Prepared A → A → A → A → A → A → A → A → A → A → Step (A × A)
-  slope_rows face p q x xs y ys w ws q0 = do
-    m ← o.plus w ws
-    b ← o.plus (← o.over face.c m) (← o.shift q0 face.norm)
-    t ← o.plus (← o.times p (← o.plus x xs)) (← o.times q (← o.plus y ys))
-    g ← if_above_zero (← o.minus (← whole_row o scale (pos 1)) (← o.times t b))
-    Val (m, g)
+  -- m = w + w*, G = 1 - (T*B), above 0
+  abbrev pub slope_rows : Prepared A → Line A → Points A → A → A → A → Step (Slope A)
+  slope_rows face line at w mid_w q0 = do
+    m ← o.plus w mid_w
+    b ← row_B o face m q0
+    t ← row_T o line at
+    g ← if_above_zero o (← o.minus (← whole_row o scale (pos 1)) (← o.times t b))
+    Val record { m = m; g = g }
+
+  -- a round over a window, but for its last row
+  unfoldable pub round_rows : Prepared A → Line A → ℤ → Ends → Step (Round A)
+  round_rows face line e a = do
+    at ← points_rows o (zone2_of o face) line a
+    w ← w_row o scale face at.rho e
+    conic ← mid_conic_rows face at.mid_rho e
+    u ← o.shift at.rho face.norm
+    mid_u ← o.shift at.mid_rho face.norm
+    mid ← mid_sag_rows face mid_u conic.sag
+    q0 ← quotient_row u mid.values
+    slope ← slope_rows face line at w conic.w q0
+    Val record { middle = middle_value o a; sag = mid.sag; m = slope.m; g = slope.g }
 
   -- znew = z* + ((wd(S* - z*) + (wd(wd(0))/m))/G)
-  abbrev pub next_z_row : A → A → A → A → ℤ → Step A
-  next_z_row zs ss m g e = do
-    missed ← o.widen (← o.minus ss zs) e
-    error ← o.over (← o.widen (← o.widen (← whole_row o scale (pos 0)) e) e) m
-    o.plus zs (← o.over (← o.plus missed error) g)
+  abbrev pub next_row : Round A → ℤ → Step A
+  next_row r e = do
+    missed ← o.widen (← o.minus r.sag r.middle) e
+    error ← o.over (← o.widen (← o.widen (← whole_row o scale (pos 0)) e) e) r.m
+    o.plus r.middle (← o.over (← o.plus missed error) r.g)
 
-  -- the point of the line at z: X = x0 + (p*Z)
-  abbrev pub along_row : A → A → A → Step A
-  along_row x0 p z = do
-    o.plus x0 (← o.times p z)
-
-  -- the middle of a window
-  abbrev pub middle : Ends → ℤ
-  middle a = floor (a.lo +ℤ a.hi) (pos 2)
-
-  -- one slope round over the window
-  unfoldable pub round_rows : Prepared A → A → A → A → A → ℤ → Ends → Step A
-  round_rows face x0 y0 p q e a = do
-    x ← along_row x0 p (o.of_span a)
-    xs ← along_row x0 p (o.of_span (point (middle a)))
-    y ← along_row y0 q (o.of_span a)
-    ys ← along_row y0 q (o.of_span (point (middle a)))
-    rho ← o.clip (← o.plus (← o.square x) (← o.square y)) (up_to (zone2_of face))
-    rhos ← o.plus (← o.square xs) (← o.square ys)
-    w ← o.root (← o.minus (← whole_row o scale (pos 1)) (← o.times face.ck (← o.widen (← o.times face.c rho) e)))
-    reference ← reference_w_rows face rhos e
-    u ← o.shift rho face.norm
-    us ← o.shift rhos face.norm
-    at_reference ← reference_sag_rows face us reference.0 reference.1
-    q0 ← quotient_row u at_reference.values
-    slope ← slope_rows face p q x xs y ys w at_reference.w q0
-    next_z_row (o.of_span (point (middle a))) at_reference.sag slope.0 slope.1 e
+  -- znew of a window
+  unfoldable pub next_rows : Prepared A → Line A → ℤ → Ends → Step A
+  next_rows face line e a = do
+    r ← round_rows face line e a
+    next_row r e
 
   -- the window after a round: where the round is Lost it stays
   abbrev pub narrowed : Ends → Step A → Step Ends
   narrowed a (Val z) = common (o.hull z) a
   narrowed a Empty = Empty
   narrowed a (Lost why) = Val a
+
+  -- the window, pruned twice
+  unfoldable pub pruned_window : Prepared A → Line A → ℤ → Step Ends
+  pruned_window face line e = do
+    first ← window_row scale (hulls o face) (zone2_of o face) e
+    second ← pruned scale (hulls o face) (zone2_of o face) (line_hulls o line) e first
+    pruned scale (hulls o face) (zone2_of o face) (line_hulls o line) e second
+
+  -- the window at the start of the last round
+  unfoldable pub last_window : Prepared A → Line A → ℤ → Step Ends
+  last_window face line e = do
+    first ← pruned_window face line e
+    second ← narrowed first (next_rows face line e first)
+    third ← narrowed second (next_rows face line e second)
+    narrowed third (next_rows face line e third)
 
   -- the answer of the last round, clipped to the window at its start; Empty where its hull and the window have nothing in common
   abbrev pub last_answer : Ends → Step A → Step A
@@ -139,12 +198,7 @@ module _ {A : Type 0} (o : Operations A) (scale : ℕ) where
     o.clip z a
 
   -- zj: the window, pruned twice, and four rounds
-  unfoldable pub meet_asphere_rows : Prepared A → A → A → A → A → ℤ → Step A
-  meet_asphere_rows face x0 y0 p q e = do
-    w0 ← window_row scale (hulls face) (zone2_of face) e
-    w1 ← pruned scale (hulls face) (zone2_of face) (o.hull x0) (o.hull y0) (o.hull p) (o.hull q) e w0
-    w2 ← pruned scale (hulls face) (zone2_of face) (o.hull x0) (o.hull y0) (o.hull p) (o.hull q) e w1
-    w3 ← narrowed w2 (round_rows face x0 y0 p q e w2)
-    w4 ← narrowed w3 (round_rows face x0 y0 p q e w3)
-    w5 ← narrowed w4 (round_rows face x0 y0 p q e w4)
-    last_answer w5 (round_rows face x0 y0 p q e w5)
+  unfoldable pub meet_asphere_rows : Prepared A → Line A → ℤ → Step A
+  meet_asphere_rows face line e = do
+    a ← last_window face line e
+    last_answer a (next_rows face line e a)

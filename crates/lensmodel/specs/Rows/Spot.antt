@@ -6,7 +6,7 @@ use Rattle.fixdec.specs.Rounding.{floor, ceil}
 use Rattle.fixdec.specs.Steps.{◌>>=◌}
 use Rattle.fixdec.specs.declared.step.Step.{Step}
 use Rattle.fixdec.specs.declared.step.Step.TheVariants.{Val}
-use Rattle.lensmodel.specs.Rows.Crossing.{positive}
+use Rattle.lensmodel.specs.Rows.Spans.{positive}
 use Rattle.lensmodel.specs.declared.row.Place.{Place}
 use Rattle.lensmodel.specs.declared.row.Row.{Row}
 use Rattle.lensmodel.specs.declared.row.Word.{Word}

@@ -1,4 +1,4 @@
--- The rows of the start of a ray.
+-- The rows of the start of a ray. Cited by the start of a walk and by the point run.
 use Rattle.std.specs.Prelude.{ℕ, ℤ, pos, nat_eq, if◌then◌else◌}
 use Rattle.fixdec.specs.Operations.{Operations}
 use Rattle.fixdec.specs.Steps.{◌>>=◌}
@@ -34,7 +34,12 @@ module _ {A : Type 0} (o : Operations A) (scale : ℕ) where
       then decimal_row o scale r.num
       else (decimal_row o scale r.num >>= λ a. whole_row o scale (pos r.den) >>= λ b. o.over a b)
 
-  -- Plain: the four decimals. Pupil: x = (r*px) - (p*zp), y = (r*py) - (q*zp)
+  -- x = (r*px) - (p*zp), and y likewise
+  abbrev pub pupil_row : A → A → A → A → Step A
+  pupil_row r px p zp = do
+    o.minus (← o.times r px) (← o.times p zp)
+
+  -- Plain: the four decimals. Pupil: the heights in the vertex plane by those in the pupil
   abbrev pub launch_rows : Launch → Step (Sloped A)
   launch_rows (Plain x y p q) = do
     x ← decimal_row o scale x
@@ -49,17 +54,27 @@ module _ {A : Type 0} (o : Operations A) (scale : ℕ) where
     q ← decimal_row o scale q
     r ← decimal_row o scale r
     zp ← decimal_row o scale z
-    x ← o.minus (← o.times r px) (← o.times p zp)
-    y ← o.minus (← o.times r py) (← o.times q zp)
+    x ← pupil_row r px p zp
+    y ← pupil_row r py q zp
     Val record { x = x; y = y; p = p; q = q }
 
-  -- N = rt(wd(1)/((1 + sq(p)) + sq(q))), L = wd(p*N), M = wd(q*N); z and path are 0
+  -- N = rt(wd(1)/((1 + sq(p)) + sq(q)))
+  abbrev pub axial_row : A → A → ℤ → Step A
+  axial_row p q e = do
+    one ← whole_row o scale (pos 1)
+    o.root (← o.over (← o.widen one e) (← o.plus (← o.plus one (← o.square p)) (← o.square q)))
+
+  -- L = wd(p*N), and M likewise
+  abbrev pub lateral_row : A → A → ℤ → Step A
+  lateral_row p n e = do
+    o.widen (← o.times p n) e
+
+  -- the direction of the slopes; z and path are 0
   unfoldable pub start_rows : Launch → ℤ → Step (Incoming A)
   start_rows ray e = do
     f ← launch_rows ray
-    one ← whole_row o scale (pos 1)
-    n ← o.root (← o.over (← o.widen one e) (← o.plus (← o.plus one (← o.square f.p)) (← o.square f.q)))
-    l ← o.widen (← o.times f.p n) e
-    m ← o.widen (← o.times f.q n) e
+    n ← axial_row f.p f.q e
+    l ← lateral_row f.p n e
+    m ← lateral_row f.q n e
     zero ← whole_row o scale (pos 0)
     Val record { x = f.x; y = f.y; z = zero; l = l; m = m; n = n; path = zero }

@@ -91,6 +91,15 @@ curvature s symbols j = value (surface_at s j).curv +Q deviation s symbols Curv 
 abbrev pub conic_factor : Setup → ℕ → Frac
 conic_factor s j = whole (pos 1) +Q value (surface_at s j).conic
 
+-- the decimal of a thickness; an infinite one isn't used
+abbrev pub thickness_of : Option Decimal → Decimal
+thickness_of None = zero_decimal
+thickness_of (Some d) = d
+
+-- the semi-diameter that clips: that of a surface with a rim
+abbrev pub rim_of : Surface → Option Decimal
+rim_of f = if f.rim then f.semi else None
+
 -- a written thickness; an infinite one isn't used
 abbrev pub written_thickness : Option Decimal → Frac
 written_thickness None = whole (pos 0)
