@@ -9,8 +9,8 @@ use Rattle.fixdec.specs.Algebra.MemberLaws.{units_pos}
 use Rattle.fixdec.specs.Algebra.Order.{le_trans, le_whole}
 use Rattle.fixdec.specs.Algebra.OrderLaws.{le_cancel, le_same_left, le_same_right, whole_mul}
 use Rattle.fixdec.specs.Algebra.FracLaws.{≈_sym}
-use Rattle.lensmodel.specs.Equations.Dispersion.{IsIndex}
-use Rattle.lensmodel.specs.Files.Picking.{picked, medium_of}
+use Rattle.lensmodel.specs.Equations.Dispersion.{IsGlassIndex, IsIndex}
+use Rattle.lensmodel.specs.Files.Picking.{Picked, picked, picked_medium}
 use Rattle.lensmodel.specs.Equations.Residual.{residual}
 use Rattle.lensmodel.specs.declared.fault.CrossFault.{CrossFault}
 use Rattle.lensmodel.specs.declared.glass.Glass.{Glass}
@@ -27,15 +27,28 @@ within_limits e n l h m = record {
 }
 
 module _ (book : List Glass) (name : List ℕ) (wave : Decimal) where
+  -- each index of a glass lies between the ends of its interval
+  abbrev pub IsHeld : Picked → Type 0
+  IsHeld p = (n : Frac) → IsGlassIndex (residual 12) p.glass wave n → IsMember 12 p.index n
+
+  pub picked-held : (r : Result Picked CrossFault) → r ≡ picked book name wave → IfOk r IsHeld
+  picked-held r e = subst (λ x. IfOk x IsHeld) (sym e) (by (picked book name wave) refl)
+    where
+      by : (p : Result Picked CrossFault) → picked book name wave ≡ p → IfOk p IsHeld
+      by (Err fault) i = tt
+      by (Ok p) i =
+          let u = (picked-is book name wave p i).usable in
+          λ n h. index_at_12-holds p.glass wave p.index (known_if_used p.glass.formula u.used) u.index n h
+
   -- each index of a medium is from 1 to 5
   abbrev pub IsSound : Medium → Type 0
   IsSound m = (n : Frac) → IsIndex (residual 12) m wave n → IsFrom1To5 n
 
-  pub picked-sound : (r : Result Medium CrossFault) → r ≡ medium_of (picked book name wave) → IfOk r IsSound
+  pub picked-sound : (r : Result Medium CrossFault) → r ≡ picked_medium (picked book name wave) → IfOk r IsSound
   picked-sound r e = subst (λ x. IfOk x IsSound) (sym e) (by (picked book name wave) refl)
     where
-      by : (p : Result Glass CrossFault) → picked book name wave ≡ p → IfOk (medium_of p) IsSound
+      by : (p : Result Picked CrossFault) → picked book name wave ≡ p → IfOk (picked_medium p) IsSound
       by (Err fault) i = tt
-      by (Ok g) i =
-          let u = (picked-is book name wave g i).usable in
-          λ n h. within_limits u.ends n u.least u.greatest (index_at_12-holds g wave u.ends (known_if_used g.formula u.used) u.index n h)
+      by (Ok p) i =
+          let u = (picked-is book name wave p i).usable in
+          λ n h. within_limits p.index n u.least u.greatest (index_at_12-holds p.glass wave p.index (known_if_used p.glass.formula u.used) u.index n h)

@@ -2,8 +2,9 @@
 
 ghost use Rattle.std.specs.Prelude.{◌≡◌, ◌⊎◌, ℤ, pos, negsuc, ◌<ℤ◌, ◌≤ℤ◌, IfOk};
 ghost use Rattle.fixdec.specs.Frac.{Frac};
+ghost use Rattle.fixdec.specs.Member.{IsMember};
 ghost use Rattle.lensmodel.specs.Files.Catalogue as catalogue;
-ghost use Rattle.lensmodel.specs.Equations.Dispersion.{IsIndex};
+ghost use Rattle.lensmodel.specs.Equations.Dispersion.{IsGlassIndex, IsIndex};
 ghost use Rattle.lensmodel.specs.Files.Picking as picking;
 ghost use Rattle.lensmodel.specs.Equations.Residual.{residual};
 ghost use Rattle.dispers.specs.Limits.{IsFrom1To5};
@@ -14,11 +15,13 @@ use enclose::arith::Arith;
 use enclose::iv::Iv;
 use exactdec::scale;
 use fixdec::dec::Dec;
+use fixdec::span::Span;
 use fixdec::step::Step;
 use glassbook::book::GlassBook;
 use lensmodel::fault::CrossFault;
 use lensmodel::glass::{Glass, Medium};
 use lensmodel::name::Name;
+use std::marker::Model;
 
 /// The scale at which an index is judged.
 const INDEX_SCALE: u32 = 12;
@@ -26,16 +29,37 @@ const INDEX_SCALE: u32 = 12;
 /// One, in units of the scale at which an index is judged.
 const ONE: i128 = 1_000_000_000_000;
 
-/// The glass of a name, compared after ASCII upper-casing, at a wavelength in micrometres above 0.
-/// It is refused, as surface 0, by the first of these that holds: the book has no such glass, its
-/// formula isn't 1 or 2, the wavelength is outside its range, or its index at scale 12 isn't
-/// enclosed between 1 and 5.
-pub fn pick(book: &GlassBook, name: &Name, wave: &Dec) -> Result<Medium, CrossFault>
-    requires { pos 0 <ℤ wave.now.mant }
-    ensures exact { result ≡ picking.medium_of (picking.picked book.now name.now.items wave.now) }
+/// A glass of a book, with its index at scale 12.
+#[derive(Drop)]
+pub struct Picked<'a> {
+    /// The glass.
+    pub glass: &'a Glass,
+    /// Its index, at scale 12.
+    pub index: Span,
+}
 
-    // Each index of the medium within 10^-12 is from 1 to 5.
-    ensures sound { IfOk result (λ m. (n : Frac) → IsIndex (residual 12) m wave.now n → IsFrom1To5 n) }
+impl<'a> Model for Picked<'a> {
+    ghost use Rattle.lensmodel.specs.Files.Picking as picking;
+
+    ghost Value = { picking.Picked };
+
+    ghost view = { λ p. record { glass = p.glass.now; index = p.index } };
+}
+
+/// The glass of a name, compared after ASCII upper-casing, with its index at a wavelength in
+/// micrometres above 0. It is refused, as surface 0, by the first of these that holds: the book has
+/// no such glass, its formula isn't 1 or 2, the wavelength is outside its range, or its index at
+/// scale 12 isn't enclosed between 1 and 5.
+pub fn find<'a>(
+    book: &'a GlassBook,
+    name: &Name,
+    wave: &Dec,
+) -> Result<Picked<'a>, CrossFault>
+    requires { pos 0 <ℤ wave.now.mant }
+    ensures exact { result ≡ picking.picked book.now name.now.items wave.now }
+
+    // Each index of the glass within 10^-12 lies in the printed interval, which is from 1 to 5.
+    ensures holds { IfOk result (λ p. (n : Frac) → IsGlassIndex (residual 12) p.glass wave.now n → IsMember 12 p.index n) }
 {
     match book.find(name) {
         Some(glass) => usable(glass, wave),
@@ -43,9 +67,23 @@ pub fn pick(book: &GlassBook, name: &Name, wave: &Dec) -> Result<Medium, CrossFa
     }
 }
 
-/// The medium of a glass, where it can be used at a wavelength.
-fn usable(glass: &Glass, wave: &Dec) -> Result<Medium, CrossFault>
-    ensures { result ≡ picking.medium_of (picking.usable glass.now wave.now) }
+/// The medium of the glass that `find` gives, refused as there.
+pub fn pick(book: &GlassBook, name: &Name, wave: &Dec) -> Result<Medium, CrossFault>
+    requires { pos 0 <ℤ wave.now.mant }
+    ensures exact { result ≡ picking.picked_medium (picking.picked book.now name.now.items wave.now) }
+
+    // Each index of the medium within 10^-12 is from 1 to 5.
+    ensures sound { IfOk result (λ m. (n : Frac) → IsIndex (residual 12) m wave.now n → IsFrom1To5 n) }
+{
+    match find(book, name, wave) {
+        Ok(picked) => Ok(Medium::Of(picked.glass.copy())),
+        Err(fault) => Err(fault),
+    }
+}
+
+/// A glass with its index, where it can be used at a wavelength.
+fn usable<'a>(glass: &'a Glass, wave: &Dec) -> Result<Picked<'a>, CrossFault>
+    ensures { result ≡ picking.usable glass.now wave.now }
 {
     if !is_used(glass.formula) {
         return Err(CrossFault::Formula { surface: 0 });
@@ -53,8 +91,18 @@ fn usable(glass: &Glass, wave: &Dec) -> Result<Medium, CrossFault>
     if is_under(wave, &glass.low) || is_over(wave, &glass.high) {
         return Err(CrossFault::WaveRange { surface: 0 });
     }
-    if is_good_index(index_at_12(glass, wave)) {
-        Ok(Medium::Of(glass.copy()))
+    match index_at_12(glass, wave) {
+        Step::Val(n) => with_index(glass, n.hull()),
+        Step::Empty | Step::Lost(_) => Err(CrossFault::BadIndex { surface: 0 }),
+    }
+}
+
+/// A glass with an index that is from 1 to 5.
+fn with_index(glass: &Glass, index: Span) -> Result<Picked<'_>, CrossFault>
+    ensures { result ≡ picking.with_index glass.now (Step.Val index) }
+{
+    if ONE <= index.lo && index.hi <= 5 * ONE {
+        Ok(Picked { glass, index })
     } else {
         Err(CrossFault::BadIndex { surface: 0 })
     }
@@ -97,19 +145,6 @@ pub fn index_at_12(glass: &Glass, wave: &Dec) -> Step<Iv<12>>
         Step::Val(span) => index::<Iv<12>>(&Medium::Of(glass.copy()), span, 1),
         Step::Empty => Step::Empty,
         Step::Lost(why) => Step::Lost(why),
-    }
-}
-
-/// Whether an index at scale 12 lies from 1 to 5.
-fn is_good_index(n: Step<Iv<12>>) -> bool
-    ensures { result ≡ picking.is_good_index n }
-{
-    match n {
-        Step::Val(n) => {
-            let ends = n.hull();
-            ONE <= ends.lo && ends.hi <= 5 * ONE
-        }
-        Step::Empty | Step::Lost(_) => false,
     }
 }
 

@@ -34,3 +34,15 @@ impl<T> Default for Step<T> {
         Step::Empty
     }
 }
+
+/// The value of a step; a step without one is the answer of the function that asks.
+#[macro_export]
+macro_rules! val {
+    ($step:expr) => {
+        match $step {
+            $crate::step::Step::Val(value) => value,
+            $crate::step::Step::Empty => return $crate::step::Step::Empty,
+            $crate::step::Step::Lost(why) => return $crate::step::Step::Lost(why),
+        }
+    };
+}

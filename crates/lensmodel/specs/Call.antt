@@ -1,2 +1,10 @@
-pub mod IndexMeaning
+pub mod Answer
+pub mod First
+pub mod Glass
+pub mod Index
+pub mod Inputs
+pub mod Read
+pub mod Seidel
 pub mod TopCall
+pub mod Trace
+pub mod TraceJson

@@ -1,3 +1,4 @@
+pub mod Closeness
 pub mod Enclosure
 pub mod RowClaims
 pub mod SpotClaims

@@ -1,2 +1,9 @@
+pub mod Book
 pub mod FaultText
-pub mod Printed
+pub mod FirstOrder
+pub mod Index
+pub mod JsonRows
+pub mod Lens
+pub mod Pieces
+pub mod Rows
+pub mod SeidelSums

@@ -2,7 +2,8 @@
 
 ghost use Rattle.std.specs.Prelude.{◌≡◌, ◌+◌, ◌≤◌, ◌++◌, []};
 ghost use Rattle.arrayvec.specs.ArrayString.{array_string_len};
-ghost use Rattle.lensmodel.specs.Texts.Printed.{glasses_line, glass_line, glass_head, glass_range, glass_coefficients, bound_text, spaced};
+ghost use Rattle.lensmodel.specs.Texts.Book.{glasses_line, glass_line, glass_head, glass_range, glass_coefficients};
+ghost use Rattle.lensmodel.specs.Texts.Pieces.{bound_text, spaced};
 
 use crate::pieces::{Line, push_decimal, push_name, push_number};
 use fixdec::dec::Dec;

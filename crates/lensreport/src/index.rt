@@ -1,7 +1,7 @@
 //! The line of one index.
 
 ghost use Rattle.std.specs.Prelude.{◌≡◌, []};
-ghost use Rattle.lensmodel.specs.Texts.Printed.{index_line};
+ghost use Rattle.lensmodel.specs.Texts.Index.{index_line};
 
 use crate::pieces::{Line, push_decimal, push_name, push_span};
 use fixdec::dec::Dec;

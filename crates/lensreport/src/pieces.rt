@@ -4,7 +4,7 @@ ghost use Rattle.std.specs.Prelude.{◌≡◌, ℕ, pos, ◌+◌, ◌≤◌, ◌
 ghost use Rattle.std.specs.Fmt.{decimal};
 ghost use Rattle.arrayvec.specs.ArrayString.{array_string_len};
 ghost use Rattle.fixdec.specs.DecimalText.{dec_text, fix_text};
-ghost use Rattle.lensmodel.specs.Texts.Printed.{name_text, span_text, unit_byte};
+ghost use Rattle.lensmodel.specs.Texts.Pieces.{name_text, span_text, unit_byte};
 
 use arrayvec::ArrayString;
 use exactdec::print::{print_dec, print_fix};

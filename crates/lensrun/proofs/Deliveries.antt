@@ -2,7 +2,8 @@
 use Rattle.std.proofs.Common.{◌≡◌, ℕ, List, subst, ap, ◌∙◌, inl, inr}
 use Rattle.std.specs.Prelude.{Option}
 use Rattle.lensio.specs.Taken.{Takes}
-use Rattle.lensmodel.specs.Call.TopCall.{Files, Answer, outcome}
+use Rattle.lensmodel.specs.Call.Answer.{Files, Answer}
+use Rattle.lensmodel.specs.Call.TopCall.{outcome}
 use Rattle.lensmodel.specs.declared.status.Status.{Status}
 use Rattle.lensrun.specs.Due.{Delivers}
 use Rattle.lensrun.specs.Promise.{OfFiles, IsDecided, IsDue}

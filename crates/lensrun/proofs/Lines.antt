@@ -7,7 +7,7 @@ use Rattle.std.proofs.lemmas.Option.{slice_get_within, get_or_from_slice_get}
 use Rattle.std.proofs.Math.Seq.{take-suc}
 use Rattle.lensio.specs.Taken.{Takes, TakesFront}
 use Rattle.lensio.specs.TakenLaws.{Takes-trans, TakesFront-after}
-use Rattle.lensmodel.specs.Texts.Printed.{glasses_line, glass_line, glass_lines, book_text}
+use Rattle.lensmodel.specs.Texts.Book.{glasses_line, glass_line, glass_lines, book_text}
 use Rattle.lensmodel.specs.declared.glass.Glass.{Glass}
 
 front_within : (n : ℕ) (xs ys : List ℕ) → take (min n (length xs)) (xs ++ ys) ≡ take n xs

@@ -4,9 +4,12 @@ use Rattle.std.specs.Prelude.{nat_lt}
 use Rattle.fixdec.specs.Decimal.{Decimal}
 use Rattle.lensmodel.specs.Files.Catalogue.{catalogue}
 use Rattle.lensmodel.specs.Texts.FaultText.{too_long_line}
-use Rattle.lensmodel.specs.Call.IndexMeaning.{PrintsIndex, Means}
+use Rattle.lensmodel.specs.Call.Index.{PrintsIndex}
+use Rattle.lensmodel.specs.Call.TopCall.{Means}
 use Rattle.lensmodel.specs.Files.Picking.{picked, index_at_12}
-use Rattle.lensmodel.specs.Call.TopCall.{Files, Answer, Command, index, glass, answer, on_file, on_book, on_glass, printed_index, index_answer, command_answer, command_of, outcome}
+use Rattle.lensmodel.specs.Call.Answer.{Files, Answer, answer, on_file}
+use Rattle.lensmodel.specs.Call.TopCall.{Command, index, glass, on_book, on_glass, printed_index, command_answer, command_of, outcome}
+use Rattle.lensmodel.specs.Call.Index.{index_answer}
 use Rattle.lensmodel.specs.declared.fault.AgfFault.{AgfFault}
 use Rattle.lensmodel.specs.declared.fault.CrossFault.{CrossFault}
 use Rattle.lensmodel.specs.declared.glass.Glass.{Glass}

@@ -6,7 +6,8 @@ use Rattle.lensio.specs.Held.{Holds, HoldsMore, Lacks}
 use Rattle.lensio.specs.declared.transfer.SlurpFault.{SlurpFault}
 use Rattle.lensio.specs.declared.transfer.SlurpFault.TheVariants as slurped
 use Rattle.lensmodel.specs.Texts.FaultText.{usage_line, too_long_line, read_fault_line}
-use Rattle.lensmodel.specs.Call.TopCall.{Files, Answer, answer, Command, index, glass, command_of, files_of, command_answer, on_file, outcome}
+use Rattle.lensmodel.specs.Call.Answer.{Files, Answer, answer, on_file}
+use Rattle.lensmodel.specs.Call.TopCall.{Command, index, glass, command_of, files_of, command_answer, outcome}
 use Rattle.lensmodel.specs.declared.status.FileKind.{FileKind}
 use Rattle.lensmodel.specs.declared.status.FileKind.TheVariants.{Agf}
 use Rattle.lensmodel.specs.declared.status.Status.TheVariants.{Usage, TooLong, ReadFault}

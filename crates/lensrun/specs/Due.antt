@@ -7,8 +7,9 @@ use Rattle.lensio.specs.declared.transfer.SlurpFault.TheVariants as slurped
 use Rattle.lensmodel.specs.Files.Catalogue.{catalogue}
 use Rattle.lensmodel.specs.Texts.FaultText.{absent_line, read_fault_line, too_long_line}
 use Rattle.lensmodel.specs.Files.Picking.{picked}
-use Rattle.lensmodel.specs.Texts.Printed.{book_text}
-use Rattle.lensmodel.specs.Call.TopCall.{Answer, answer, Command, index, glass, on_book, on_glass}
+use Rattle.lensmodel.specs.Texts.Book.{book_text}
+use Rattle.lensmodel.specs.Call.Answer.{Answer, answer}
+use Rattle.lensmodel.specs.Call.TopCall.{Command, index, glass, on_book, on_glass}
 use Rattle.lensmodel.specs.declared.glass.Glass.{Glass}
 use Rattle.lensmodel.specs.declared.status.FileKind.{FileKind}
 use Rattle.lensmodel.specs.declared.status.Status.{Status}

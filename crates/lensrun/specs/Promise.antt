@@ -2,8 +2,9 @@
 use Rattle.std.specs.Prelude.{◌≡◌, ℕ, ◌⊎◌, List, Any, Option, None, Some}
 use Rattle.lensio.specs.Taken.{Takes, TakesFront}
 use Rattle.lensmodel.specs.Texts.FaultText.{read_fault_line}
-use Rattle.lensmodel.specs.Call.IndexMeaning.{Means}
-use Rattle.lensmodel.specs.Call.TopCall.{Files, Command, command_of, files_of, outcome}
+use Rattle.lensmodel.specs.Call.TopCall.{Means}
+use Rattle.lensmodel.specs.Call.Answer.{Files}
+use Rattle.lensmodel.specs.Call.TopCall.{Command, command_of, files_of, outcome}
 use Rattle.lensmodel.specs.declared.status.Status.{Status}
 use Rattle.lensmodel.specs.declared.status.Status.TheVariants.{Done, Usage, Refused, Absent, ReadFault, TooLong, WriteFault, Memory}
 

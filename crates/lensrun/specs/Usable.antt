@@ -3,7 +3,8 @@ use Rattle.std.specs.Prelude.{[]}
 use Rattle.dispers.specs.Picked.{IsUsable}
 use Rattle.fixdec.specs.Decimal.{Decimal}
 use Rattle.lensmodel.specs.Files.Picking.{index_at_12}
-use Rattle.lensmodel.specs.Call.TopCall.{Answer, answer, printed_index}
+use Rattle.lensmodel.specs.Call.Answer.{Answer, answer}
+use Rattle.lensmodel.specs.Call.TopCall.{printed_index}
 use Rattle.lensmodel.specs.declared.glass.Medium.{Medium}
 use Rattle.lensmodel.specs.declared.glass.Medium.TheVariants.{Air, Of}
 use Rattle.lensmodel.specs.declared.status.Status.TheVariants.{Done}

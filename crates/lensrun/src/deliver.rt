@@ -3,7 +3,7 @@
 ghost use Rattle.std.specs.Prelude.{◌≡◌, ◌++◌, ◌≤◌, OnOk, OnErr, is_ok, if◌then◌else◌};
 ghost use Rattle.lensio.specs.Count.{Rose};
 ghost use Rattle.lensio.specs.Taken.{Takes, TakesFront};
-ghost use Rattle.lensmodel.specs.Texts.Printed.{book_text};
+ghost use Rattle.lensmodel.specs.Texts.Book.{book_text};
 ghost use Rattle.lensrun.specs.Due.{due_answer, Delivers};
 
 use crate::due::Due;

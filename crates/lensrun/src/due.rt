@@ -2,7 +2,7 @@
 
 ghost use Rattle.std.specs.Prelude.{◌≡◌, ◌≢◌};
 ghost use Rattle.lensmodel.specs.Texts.FaultText.{usage_line, refused_line, crossed_line, agf_cause};
-ghost use Rattle.lensmodel.specs.Call.TopCall.{answer};
+ghost use Rattle.lensmodel.specs.Call.Answer.{answer};
 ghost use Rattle.lensrun.specs.Due.{due_answer, unread_answer};
 
 use glassbook::book::GlassBook;

@@ -12,18 +12,8 @@ use exactdec::scale;
 use fixdec::dec::Dec;
 use fixdec::span::Span;
 use fixdec::step::Step;
+use fixdec::val;
 use lensmodel::glass::{Glass, Medium};
-
-/// The value of a step, or the function's answer where it has none.
-macro_rules! val {
-    ($e:expr) => {
-        match $e {
-            Step::Val(x) => x,
-            Step::Empty => return Step::Empty,
-            Step::Lost(w) => return Step::Lost(w),
-        }
-    };
-}
 
 /// A decimal as a value.
 fn decimal<T: Arith>(v: &Dec) -> Step<T>

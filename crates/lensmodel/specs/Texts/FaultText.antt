@@ -1,7 +1,7 @@
 -- The line of a call that ends without a report: the status, the file, and the cause with its place.
 use Rattle.std.specs.Prelude.{ℕ, List, [], ◌++◌, codes}
 use Rattle.std.specs.Fmt.{decimal}
-use Rattle.lensmodel.specs.Texts.Printed.{newline}
+use Rattle.lensmodel.specs.Texts.Pieces.{newline}
 use Rattle.lensmodel.specs.declared.fault.AgfFault.{AgfFault}
 use Rattle.lensmodel.specs.declared.fault.AgfFault.TheVariants as agf
 use Rattle.lensmodel.specs.declared.fault.CrossFault.{CrossFault}

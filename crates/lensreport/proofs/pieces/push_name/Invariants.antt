@@ -1,7 +1,7 @@
 use Rattle.std.proofs.Common.{◌≡◌, ◌+◌, ◌++◌, take}
 use Rattle.std.specs.Prelude.{map}
 use Rattle.arrayvec.specs.ArrayString.{array_string_len}
-use Rattle.lensmodel.specs.Texts.Printed.{unit_byte}
+use Rattle.lensmodel.specs.Texts.Pieces.{unit_byte}
 use Rattle.lensreport.proofs.pieces.push_name.Given as goal
 
 abbrev pub invariant-loop-unit : goal.invariant-loop-unit

@@ -1,7 +1,8 @@
 use Rattle.std.proofs.Common.{◌≡◌, sym, ap, ◌∙◌}
 use Rattle.fixdec.specs.IntervalOperations.{operations}
-use Rattle.lensmodel.specs.Texts.Printed.{index_line}
-use Rattle.lensmodel.specs.Call.TopCall.{answer, printed_index}
+use Rattle.lensmodel.specs.Texts.Index.{index_line}
+use Rattle.lensmodel.specs.Call.Answer.{answer}
+use Rattle.lensmodel.specs.Call.TopCall.{printed_index}
 use Rattle.lensmodel.specs.declared.glass.Medium.{Medium}
 use Rattle.lensmodel.specs.declared.status.Status.TheVariants.{Done}
 use Rattle.lensrun.specs.Usable.{medium_answer}

@@ -1,6 +1,6 @@
 use Rattle.std.proofs.Common.{◌≤◌, ◌++◌, length, take}
 use Rattle.lensio.specs.Taken.{Takes}
-use Rattle.lensmodel.specs.Texts.Printed.{glasses_line, glass_lines}
+use Rattle.lensmodel.specs.Texts.Book.{glasses_line, glass_lines}
 use Rattle.lensrun.proofs.deliver.write_book.Given as goal
 
 -- the count and the lines of the glasses before were taken
