@@ -2,7 +2,8 @@
 use Rattle.std.specs.Prelude.{◌≡◌, ◌⊎◌, suc, Bool, true, false, List, [], ◌∷◌, ◌++◌, Option, Some, None, if◌then◌else◌, refl}
 use Rattle.std.proofs.Common.{ap, sym, ◌∙◌, inl, inr}
 use Rattle.lensmodel.specs.Files.Catalogue.{is_NM, is_CD, is_LD, block, glass_of, all_glasses, formula_number, is_used, coefficient_in, bound_in}
-use Rattle.lensmodel.specs.Files.Records.{Words, last_where, count_where, or_first, word_at}
+use Rattle.lensmodel.specs.Files.Causes.{or_first}
+use Rattle.lensmodel.specs.Files.Records.{Words, last_where, count_where, word_at}
 use Rattle.lensmodel.specs.declared.glass.Glass.{Glass}
 use Rattle.agfread.specs.Records.{with_coefficients, with_CD, with_bounds}
 

@@ -2,7 +2,8 @@
 use Rattle.std.proofs.Common.{◌≡◌, ℕ, zero, suc, ◌+◌, ◌<◌, ◌≤◌, List, [], ◌∷◌, ◌++◌, length, take, drop, refl, sym, ap, subst, ◌∙◌, arith}
 use Rattle.std.specs.Prelude.{Option, Some, None, Result, Ok, Err, IfOk, IfErr, IsErrAnd, slice_index_or}
 use Rattle.lensmodel.specs.Files.Catalogue.{offence, first_offence, all_glasses, book, of_lines, of_text, catalogue, glasses_unless}
-use Rattle.lensmodel.specs.Files.Records.{Words, or_first, each_words}
+use Rattle.lensmodel.specs.Files.Causes.{or_first}
+use Rattle.lensmodel.specs.Files.Records.{Words, each_words}
 use Rattle.lensmodel.specs.Files.TextLines.{words, text}
 use Rattle.lensmodel.specs.declared.fault.AgfFault.{AgfFault}
 use Rattle.lensmodel.specs.declared.glass.Glass.{Glass}

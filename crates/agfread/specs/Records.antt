@@ -1,7 +1,8 @@
 -- What one record of a catalogue says, word by word. A line is its list of words.
 use Rattle.std.specs.Prelude.{ℕ, zero, suc, Bool, true, false, [], ◌∷◌, Option, Some, None, if◌then◌else◌}
 use Rattle.fixdec.specs.Reading.{decimal_of}
-use Rattle.lensmodel.specs.Files.Catalogue.{CD_fault, bad_unless, is_used, coefficient_in, bound_in}
+use Rattle.lensmodel.specs.Files.Causes.{bad_unless}
+use Rattle.lensmodel.specs.Files.Catalogue.{CD_fault, is_used, coefficient_in, bound_in}
 use Rattle.lensmodel.specs.Files.Records.{Words, word_at}
 use Rattle.lensmodel.specs.declared.fault.AgfFault.{AgfFault}
 use Rattle.lensmodel.specs.declared.fault.AgfFault.TheVariants.{BadNumber}

@@ -1,19 +1,19 @@
 -- Lenses, books and jobs that join, and cross checks that refuse them.
 use Rattle.std.specs.Prelude.{◌≡◌, ℕ, pos, negsuc, codes, List, [], ◌∷◌, map, Option, Some, None, Ok, Err}
 use Rattle.fixdec.specs.Decimal.{Decimal}
-use Rattle.lensmodel.specs.Setup.JobValue.{JobValue}
 use Rattle.lensmodel.specs.Files.Joining.{joined}
 use Rattle.examples.specs.SmallLenses.{dec, tenths, toleranced}
 use Rattle.examples.specs.Worked.{flat_glass, far_object, plane_setup, mirror_setup}
 use Rattle.lensmodel.specs.Setup.Values.{plane, zero_decimal}
 use Rattle.lensmodel.specs.declared.fault.CrossFault.TheVariants.{NoGlass, Formula, NoWave, WaveRange, BadIndex, MirrorIndex}
+use Rattle.lensmodel.specs.declared.job.Job.{Job}
 use Rattle.lensmodel.specs.declared.prescription.Prescription.{Prescription}
 
 -- a job without rays
-abbrev pub job_of : Option Decimal → JobValue
+abbrev pub job_of : Option Decimal → Job
 job_of wave = record { wave = wave; res = 12; width = dec (pos 1) (negsuc 2); asks = [] }
 
-abbrev pub at_half : JobValue
+abbrev pub at_half : Job
 at_half = job_of (Some (tenths (pos 5)))
 
 -- a plane with the glass of a name behind it

@@ -6,7 +6,7 @@ use Rattle.lensmodel.specs.Setup.Values.{zero_decimal}
 use Rattle.lensmodel.specs.declared.job.Ask.TheVariants.{Fan, Spot, First}
 use Rattle.lensmodel.specs.declared.launch.Launch.{Launch}
 use Rattle.lensmodel.specs.declared.launch.Launch.TheVariants.{Pupil}
-use Rattle.lensmodel.specs.declared.launch.Ratio.{Ratio}
+use Rattle.lensmodel.specs.Setup.Ratio.{Ratio}
 
 abbrev pub three : Decimal
 three = record { mant = pos 3; exp = pos 0 }

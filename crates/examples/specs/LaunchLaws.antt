@@ -11,7 +11,7 @@ use Rattle.lensmodel.specs.declared.job.Ask.{Ask}
 use Rattle.lensmodel.specs.declared.job.Ask.TheVariants.{Ray, Aim, Fan, Spot, First, Seidel}
 use Rattle.lensmodel.specs.declared.launch.Launch.{Launch}
 use Rattle.lensmodel.specs.declared.launch.Launch.TheVariants.{Pupil}
-use Rattle.lensmodel.specs.declared.launch.Ratio.{Ratio}
+use Rattle.lensmodel.specs.Setup.Ratio.{Ratio}
 
 -- ---- places of lists
 get_left : {A : Type 0} (xs ys : List A) (j : ℕ) (x : A) → slice_get xs j ≡ Some x → slice_get (xs ++ ys) j ≡ Some x

@@ -1,8 +1,8 @@
 pub mod Comparison
-pub mod JobValue
 pub mod Launches
 pub mod Media
 pub mod Ranges
+pub mod Ratio
 pub mod Values
 pub mod WellFormed
 pub mod WholeFaults

@@ -1,5 +1,7 @@
 //! Jobs: what is asked of a lens.
 
+ghost use Rattle.std.specs.Prelude.{◌≡◌};
+
 use fixdec::dec::Dec;
 use std::marker::Model;
 
@@ -78,6 +80,44 @@ pub enum Ask {
     },
 }
 
+/// The lines of a job that ask for rays, in order.
+#[derive(Debug, Drop)]
+pub struct Asks {
+    list: Vec<Ask>,
+}
+
+impl Model for Asks {
+    ghost use Rattle.std.specs.Prelude.{List};
+    ghost use Rattle.lensmodel.specs.declared.job.Ask.{Ask};
+
+    ghost Value = { List Ask };
+
+    ghost view = { λ a. a.list.items };
+}
+
+impl Asks {
+    /// The asks of a list, which is taken over.
+    pub fn from_vec(list: Vec<Ask>) -> Asks
+        ensures { result ≡ list.items }
+    {
+        Asks { list }
+    }
+
+    /// The list of the asks, given back without taking memory.
+    pub fn into_vec(self) -> Vec<Ask>
+        ensures { result.items ≡ self }
+    {
+        self.list
+    }
+
+    /// The asks.
+    pub fn as_slice(&self) -> &[Ask]
+        ensures { result.now ≡ self.now }
+    {
+        self.list.as_slice()
+    }
+}
+
 /// A job.
 #[derive(Debug, Drop)]
 pub struct Job {
@@ -87,14 +127,6 @@ pub struct Job {
     pub res: u32,
     /// The width bound of a row's intervals, above 0 and at most 1000.
     pub width: Dec,
-    /// The lines that ask for rays, in order.
-    pub asks: Vec<Ask>,
-}
-
-impl Model for Job {
-    ghost use Rattle.lensmodel.specs.Setup.JobValue.{JobValue};
-
-    ghost Value = { JobValue };
-
-    ghost view = { λ j. record { wave = j.wave; res = j.res; width = j.width; asks = j.asks.items } };
+    /// The lines that ask for rays, in order: for at most 10,000 in all.
+    pub asks: Asks,
 }

@@ -1,6 +1,7 @@
 //! Rays that are asked for.
 
 use fixdec::dec::Dec;
+use std::marker::Model;
 
 /// The fraction `num / den`, `den` being at least 1.
 #[derive(Clone, Copy, Debug, PartialEq, Eq)]
@@ -9,6 +10,19 @@ pub struct Ratio {
     pub num: Dec,
     /// The denominator.
     pub den: u32,
+}
+
+impl Model for Ratio {
+    ghost use Rattle.std.specs.Prelude.{◌≤◌};
+    ghost use Rattle.lensmodel.specs.Setup.Ratio.{Ratio as Fraction};
+
+    ghost Value = { Fraction };
+
+    ghost view = { λ r. record { num = r.num; den = r.den } };
+
+    ghost invariant = { λ r. 1 ≤ r.den };
+
+    ghost inverse = { λ f. record { num = f.num; den = f.den } };
 }
 
 /// One ray, where it starts: at the vertex plane of surface 1, with slopes `p` in x and `q` in y.

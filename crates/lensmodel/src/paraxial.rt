@@ -1,5 +1,7 @@
 //! First-order values and Seidel sums.
 
+ghost use Rattle.std.specs.Prelude.{◌≡◌};
+
 use arrayvec::ArrayVec;
 use fixdec::span::Span;
 use fixdec::step::Step;
@@ -23,6 +25,26 @@ pub struct FirstOut {
     pub enp: Step<Span>,
     /// The height and the slope of the asked ray, at each surface from 1 on.
     pub trail: ArrayVec<(Step<Span>, Step<Span>), 64>,
+}
+
+impl FirstOut {
+    /// The same values, copied without taking memory.
+    pub fn copy(&self) -> FirstOut
+        ensures { result ≡ self.now }
+    {
+        let mut trail: ArrayVec<(Step<Span>, Step<Span>), 64> = ArrayVec::new();
+        let _ = trail.try_extend_from_slice(self.trail.as_slice());
+        FirstOut {
+            scale: self.scale,
+            efl: self.efl,
+            bfl: self.bfl,
+            ffl: self.ffl,
+            front: self.front,
+            back: self.back,
+            enp: self.enp,
+            trail,
+        }
+    }
 }
 
 /// The five Seidel sums: spherical aberration, coma, astigmatism, Petzval curvature, distortion.
@@ -49,4 +71,19 @@ pub struct SeidelOut {
     pub per: ArrayVec<Five, 64>,
     /// The sums of the whole lens.
     pub whole: Five,
+}
+
+impl SeidelOut {
+    /// The same sums, copied without taking memory.
+    pub fn copy(&self) -> SeidelOut
+        ensures { result ≡ self.now }
+    {
+        let mut per: ArrayVec<Five, 64> = ArrayVec::new();
+        let _ = per.try_extend_from_slice(self.per.as_slice());
+        SeidelOut {
+            scale: self.scale,
+            per,
+            whole: self.whole,
+        }
+    }
 }

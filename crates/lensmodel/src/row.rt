@@ -1,5 +1,7 @@
 //! What is said of one ray.
 
+ghost use Rattle.std.specs.Prelude.{◌≡◌};
+
 use arrayvec::ArrayVec;
 use fixdec::span::Span;
 use fixdec::step::Why;
@@ -60,4 +62,19 @@ pub struct Row {
     pub word: Word,
     /// The places.
     pub places: ArrayVec<Place, 64>,
+}
+
+impl Row {
+    /// The same row, copied without taking memory.
+    pub fn copy(&self) -> Row
+        ensures { result ≡ self.now }
+    {
+        let mut places: ArrayVec<Place, 64> = ArrayVec::new();
+        let _ = places.try_extend_from_slice(self.places.as_slice());
+        Row {
+            scale: self.scale,
+            word: self.word,
+            places,
+        }
+    }
 }

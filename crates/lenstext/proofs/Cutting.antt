@@ -5,7 +5,8 @@ use Rattle.std.proofs.lemmas.Bool.{ltb-false, false≢true}
 use Rattle.std.proofs.lemmas.List.{take-append-le, drop-append-le, drop_at, take_all, length-take, at_drop_all}
 use Rattle.lensmodel.specs.declared.fault.TextFault.{TextFault}
 use Rattle.lensmodel.specs.declared.fault.TextFault.TheVariants.{OddByte, Surrogate, LongLine}
-use Rattle.lensmodel.specs.Files.TextLines.{has_lone, units, lines, line_fault, first_fault, or_else, ok_unless, is_odd, text}
+use Rattle.lensmodel.specs.Files.Causes.{or_first, ok_unless}
+use Rattle.lensmodel.specs.Files.TextLines.{has_lone, units, lines, line_fault, first_line_fault, is_odd, text}
 use Rattle.lenstext.specs.Cuts.{cut, Fits}
 
 -- the last of some places, or the one before them
@@ -52,7 +53,7 @@ pub record Kept (us units ends : List ℕ) (start : ℕ) : Type 0 where
   pub shape : Fits 0 (length units) ends
   pub last : last_end 0 ends ≡ length units
   pub whole : cut 0 units ends ++ lines (drop start us) ≡ lines us
-  pub faults : first_fault (length ends + 1) (lines (drop start us)) ≡ first_fault 1 (lines us)
+  pub faults : first_line_fault (length ends + 1) (lines (drop start us)) ≡ first_line_fault 1 (lines us)
   pub unit_count : length units ≤ start
   pub end_count : length ends ≤ start
   pub few : length ends ≤ length us
@@ -72,8 +73,8 @@ line_kept units line ends f last =
     ∙ ap (λ (l : List ℕ). cut 0 units ends ++ take (n - length units) l ∷ []) (drop_at units line (length units) refl)
     ∙ ap (λ (l : List ℕ). cut 0 units ends ++ l ∷ []) (take_all (n - length units) line (omega arith))
 
-sound_line : (n : ℕ) (line : List ℕ) (ls : List (List ℕ)) → line_fault n line ≡ None → first_fault n (line ∷ ls) ≡ first_fault (suc n) ls
-sound_line n line ls e = ap (λ (f : Option TextFault). or_else f (first_fault (suc n) ls)) e
+sound_line : (n : ℕ) (line : List ℕ) (ls : List (List ℕ)) → line_fault n line ≡ None → first_line_fault n (line ∷ ls) ≡ first_line_fault (suc n) ls
+sound_line n line ls e = ap (λ (f : Option TextFault). or_first f (first_line_fault (suc n) ls)) e
 
 Kept-line : (us units ends : List ℕ) (start : ℕ) (line : List ℕ) (end : ℕ) → Kept us units ends start → start < length us → start ≤ end → end ≤ length us → length line ≤ end - start → lines (drop start us) ≡ line ∷ lines (drop (end + 1) us) → line_fault (length ends + 1) line ≡ None → Kept us (units ++ line) (ends ++ length (units ++ line) ∷ []) (end + 1)
 Kept-line us units ends start line end k some after within narrow first sound =
@@ -94,9 +95,9 @@ Kept-line us units ends start line end k some after within narrow first sound =
           ∙ ap (λ (ls : List (List ℕ)). cut 0 units ends ++ ls) (sym first)
           ∙ k.whole;
       faults =
-          ap (λ (m : ℕ). first_fault m rest) (let m : length (ends ++ n ∷ []) + 1 ≡ suc (length ends + 1) = omega arith in m)
+          ap (λ (m : ℕ). first_line_fault m rest) (let m : length (ends ++ n ∷ []) + 1 ≡ suc (length ends + 1) = omega arith in m)
           ∙ sym (sound_line (length ends + 1) line rest sound)
-          ∙ ap (first_fault (length ends + 1)) (sym first)
+          ∙ ap (first_line_fault (length ends + 1)) (sym first)
           ∙ k.faults;
       unit_count = omega arith;
       end_count = omega arith;
@@ -115,7 +116,7 @@ Kept-push us units ends start more_units more_ends end k some after within copie
     subst B (sym copied) (subst A e p)
 
 -- a fault behind the lines that are kept is that of the text
-pub Kept-fault : (us units ends : List ℕ) (start : ℕ) (f : TextFault) → Kept us units ends start → first_fault (length ends + 1) (lines (drop start us)) ≡ Some f → first_fault 1 (lines us) ≡ Some f
+pub Kept-fault : (us units ends : List ℕ) (start : ℕ) (f : TextFault) → Kept us units ends start → first_line_fault (length ends + 1) (lines (drop start us)) ≡ Some f → first_line_fault 1 (lines us) ≡ Some f
 Kept-fault us units ends start f k e = sym k.faults ∙ e
 
 lines-none : lines [] ≡ []
@@ -129,26 +130,26 @@ pub Kept-whole : (us units ends : List ℕ) (start : ℕ) → Kept us units ends
 Kept-whole us units ends start k h =
     sym (append-nil (cut 0 units ends)) ∙ ap (λ (ls : List (List ℕ)). cut 0 units ends ++ ls) (sym (behind us start h)) ∙ k.whole
 
-pub Kept-sound : (us units ends : List ℕ) (start : ℕ) → Kept us units ends start → length us ≤ start → first_fault 1 (lines us) ≡ None
-Kept-sound us units ends start k h = sym k.faults ∙ ap (first_fault (length ends + 1)) (behind us start h)
+pub Kept-sound : (us units ends : List ℕ) (start : ℕ) → Kept us units ends start → length us ≤ start → first_line_fault 1 (lines us) ≡ None
+Kept-sound us units ends start k h = sym k.faults ∙ ap (first_line_fault (length ends + 1)) (behind us start h)
 
 -- the text of bytes from the lines of its units
-pub text-ok : (bytes us : List ℕ) (ls : List (List ℕ)) → is_odd bytes ≡ false → us ≡ units bytes → first_fault 1 (lines us) ≡ None → ls ≡ lines us → text bytes ≡ Ok ls
+pub text-ok : (bytes us : List ℕ) (ls : List (List ℕ)) → is_odd bytes ≡ false → us ≡ units bytes → first_line_fault 1 (lines us) ≡ None → ls ≡ lines us → text bytes ≡ Ok ls
 unfolding text
 text-ok bytes us ls even is sound whole =
-    ap (λ (b : Bool). if b then Err OddByte else ok_unless (first_fault 1 (lines (units bytes))) (lines (units bytes))) even
-    ∙ ap (λ (u : List ℕ). ok_unless (first_fault 1 (lines u)) (lines u)) (sym is)
+    ap (λ (b : Bool). if b then Err OddByte else ok_unless (first_line_fault 1 (lines (units bytes))) (lines (units bytes))) even
+    ∙ ap (λ (u : List ℕ). ok_unless (first_line_fault 1 (lines u)) (lines u)) (sym is)
     ∙ ap (λ (f : Option TextFault). ok_unless f (lines us)) sound
     ∙ ap Ok (sym whole)
 
-pub text-fault : (bytes us : List ℕ) (f : TextFault) → is_odd bytes ≡ false → us ≡ units bytes → first_fault 1 (lines us) ≡ Some f → text bytes ≡ Err f
+pub text-fault : (bytes us : List ℕ) (f : TextFault) → is_odd bytes ≡ false → us ≡ units bytes → first_line_fault 1 (lines us) ≡ Some f → text bytes ≡ Err f
 unfolding text
 text-fault bytes us f even is found =
-    ap (λ (b : Bool). if b then Err OddByte else ok_unless (first_fault 1 (lines (units bytes))) (lines (units bytes))) even
-    ∙ ap (λ (u : List ℕ). ok_unless (first_fault 1 (lines u)) (lines u)) (sym is)
+    ap (λ (b : Bool). if b then Err OddByte else ok_unless (first_line_fault 1 (lines (units bytes))) (lines (units bytes))) even
+    ∙ ap (λ (u : List ℕ). ok_unless (first_line_fault 1 (lines u)) (lines u)) (sym is)
     ∙ ap (λ (o : Option TextFault). ok_unless o (lines us)) found
 
 pub text-odd : (bytes : List ℕ) (f : TextFault) → is_odd bytes ≡ true → f ≡ OddByte → text bytes ≡ Err f
 unfolding text
 text-odd bytes f odd e =
-    ap (λ (b : Bool). if b then Err OddByte else ok_unless (first_fault 1 (lines (units bytes))) (lines (units bytes))) odd ∙ ap Err (sym e)
+    ap (λ (b : Bool). if b then Err OddByte else ok_unless (first_line_fault 1 (lines (units bytes))) (lines (units bytes))) odd ∙ ap Err (sym e)

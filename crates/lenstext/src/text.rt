@@ -2,7 +2,7 @@
 
 ghost use Rattle.std.specs.Prelude.{◌≡◌, ◌≢◌, ◌+◌, ◌<◌, ◌≤◌, Ok, Err, None, Some, [], ◌∷◌, ◌++◌, length, drop, take, map, slice_range, slice_index_or, IfOk, IfErr, OnOk, vec_len};
 ghost use Rattle.std.specs.List.{All};
-ghost use Rattle.lensmodel.specs.Files.TextLines.{text, lines, words, line_fault, first_fault};
+ghost use Rattle.lensmodel.specs.Files.TextLines.{text, lines, words, line_fault, first_line_fault};
 ghost use Rattle.lenstext.specs.Cuts.{start_of};
 ghost use Rattle.lenstext.specs.Ranges.{word_ranges};
 
@@ -75,7 +75,7 @@ fn push_line(
         ≡ slice_range source.now start end ∷ lines (drop (end + 1) source.now)) }
     ensures sound { IfOk result (λ end. line_fault (vec_len ends.old + 1) (slice_range source.now start end) ≡ None) }
     ensures fault { IfErr result (λ f. f ≢ TextFault.Memory
-        → first_fault (vec_len ends.old + 1) (lines (drop start source.now)) ≡ Some f) }
+        → first_line_fault (vec_len ends.old + 1) (lines (drop start source.now)) ≡ Some f) }
 {
     let from = units.len();
     let end = source.copy_line(start, units)?;

@@ -7,7 +7,7 @@ use Rattle.lensmodel.specs.Equations.Residual.{IsWithin}
 use Rattle.lensmodel.specs.Setup.Values.{eps}
 use Rattle.lensmodel.specs.declared.launch.Launch.{Launch}
 use Rattle.lensmodel.specs.declared.launch.Launch.TheVariants.{Plain, Pupil}
-use Rattle.lensmodel.specs.declared.launch.Ratio.{Ratio}
+use Rattle.lensmodel.specs.Setup.Ratio.{Ratio}
 use Rattle.lensmodel.specs.declared.setup.Setup.{Setup}
 
 -- num / den, den being at least 1

@@ -1,10 +1,11 @@
 -- A glass catalogue: which lines offend, and the book of glasses that the lines make. A line is its list of words.
-use Rattle.std.specs.Prelude.{ℕ, suc, ℤ, pos, negsuc, Bool, true, false, ◌||◌, nat_eq, nat_le, nat_lt, List, [], ◌∷◌, ◌++◌, length, take, drop, codes, Option, Some, None, Result, Ok, Err, if◌then◌else◌}
+use Rattle.std.specs.Prelude.{ℕ, suc, ℤ, Bool, true, ◌||◌, nat_eq, nat_le, nat_lt, List, [], ◌∷◌, length, take, drop, codes, Option, Some, None, Result, if◌then◌else◌}
 use Rattle.fixdec.specs.Decimal.{Decimal}
 use Rattle.fixdec.specs.Reading.{decimal_of}
-use Rattle.lensmodel.specs.Setup.Media.{same_name}
-use Rattle.lensmodel.specs.Files.Records.{Words, has_tag, word_at, or_first, last_where, count_where, whole_decimal, decimal_or_0, each_words}
+use Rattle.lensmodel.specs.Files.Causes.{or_first, fault_if, bad_unless, ok_unless}
+use Rattle.lensmodel.specs.Files.Records.{Words, has_tag, lacks, word_at, last_where, count_where, number_to, whole_word, number_or_0, decimal_at, each_words, block_before, each_block, first_offence as first_of, said_by}
 use Rattle.lensmodel.specs.Files.TextLines.{text}
+use Rattle.lensmodel.specs.Setup.Media.{same_name}
 use Rattle.lensmodel.specs.Setup.Values.{zero_decimal}
 use Rattle.lensmodel.specs.declared.fault.AgfFault.{AgfFault}
 use Rattle.lensmodel.specs.declared.fault.AgfFault.TheVariants.{Text, OrphanRecord, MissingWord, BadNumber, LongName, TooManyGlasses}
@@ -22,51 +23,31 @@ is_LD line = has_tag (codes "LD") line
 
 -- a whole number from 0 to 99
 abbrev pub small_number : Option ℤ → Option ℕ
-small_number (Some (pos n)) = if nat_le n 99 then Some n else None
-small_number (Some (negsuc n)) = None
-small_number None = None
+small_number z = number_to 99 z
 
 -- the formula number of a word: a decimal whose value is a whole number from 0 to 99
 abbrev pub formula_of : List ℕ → Option ℕ
-formula_of w = small_number (whole_decimal (decimal_of w))
-
--- a formula number, or 0 where there is none
-abbrev pub formula_or_0 : Option ℕ → ℕ
-formula_or_0 (Some n) = n
-formula_or_0 None = 0
+formula_of w = whole_word 99 w
 
 -- the formula of an NM line
 abbrev pub formula_number : Words → ℕ
-formula_number nm = formula_or_0 (formula_of (word_at 2 nm))
+formula_number nm = number_or_0 (formula_of (word_at 2 nm))
 
 -- whether coefficients are read: of formulas 1 and 2
 abbrev pub is_used : ℕ → Bool
 is_used formula = nat_eq formula 1 || nat_eq formula 2
 
 -- ---- which lines offend. n is the line's number, and before the lines before it
-abbrev pub fault_if : Bool → AgfFault → Option AgfFault
-fault_if true fault = Some fault
-fault_if false fault = None
-
--- a fault unless there is a decimal
-abbrev pub bad_unless : Option Decimal → AgfFault → Option AgfFault
-bad_unless (Some d) fault = None
-bad_unless None fault = Some fault
-
 -- the first word that is no decimal, the words being counted from k
 abbrev pub first_bad : ℕ → ℕ → Words → Option AgfFault
 first_bad n k [] = None
 first_bad n k (w ∷ more) = or_first (bad_unless (decimal_of w) (BadNumber n k)) (first_bad n (suc k) more)
 
-abbrev pub no_formula : Option ℕ → Bool
-no_formula (Some formula) = false
-no_formula None = true
-
 -- NM behind so many others: a missing word, a formula that isn't one, a long name, one glass too many
 abbrev pub NM_fault : ℕ → ℕ → Words → Option AgfFault
 NM_fault n seen line =
-    or_first (fault_if (nat_lt (length line) 3) (MissingWord n))
-    (or_first (fault_if (no_formula (formula_of (word_at 2 line))) (BadNumber n 3))
+    or_first (fault_if (lacks 2 line) (MissingWord n))
+    (or_first (bad_unless (formula_of (word_at 2 line)) (BadNumber n 3))
     (or_first (fault_if (nat_lt 40 (length (word_at 1 line))) (LongName n))
     (fault_if (nat_le 4096 seen) (TooManyGlasses n))))
 
@@ -76,7 +57,7 @@ CD_fault n line = first_bad n 2 (take 6 (drop 1 line))
 
 -- LD of a glass: a missing word, or a bound that is no decimal
 abbrev pub LD_fault : ℕ → Words → Option AgfFault
-LD_fault n line = or_first (fault_if (nat_lt (length line) 3) (MissingWord n)) (first_bad n 2 (take 2 (drop 1 line)))
+LD_fault n line = or_first (fault_if (lacks 2 line) (MissingWord n)) (first_bad n 2 (take 2 (drop 1 line)))
 
 -- an NM line behind other lines
 abbrev pub NM_offence : ℕ → List Words → Words → Option AgfFault
@@ -102,18 +83,16 @@ offence n before line =
 
 -- the offence of the first line that offends
 abbrev pub first_offence : ℕ → List Words → List Words → Option AgfFault
-first_offence n before [] = None
-first_offence n before (l ∷ more) = or_first (offence n before l) (first_offence (suc n) (before ++ l ∷ []) more)
+first_offence n before lines = first_of offence n before lines
 
 -- ---- the glasses
 -- the block of a glass: the lines after its NM line and before the next
 abbrev pub block : List Words → List Words
-block [] = []
-block (l ∷ more) = if is_NM l then [] else l ∷ block more
+block lines = block_before is_NM lines
 
 -- the coefficient of a number, counted from 1, of the last CD line; a missing one is 0
 abbrev pub coefficient_in : Bool → Option Words → ℕ → Decimal
-coefficient_in true (Some cd) k = decimal_or_0 (decimal_of (word_at k cd))
+coefficient_in true (Some cd) k = decimal_at k cd
 coefficient_in used cd k = zero_decimal
 
 -- a bound of the last LD line
@@ -142,8 +121,7 @@ glass_of nm lines =
 
 -- all glasses, in order
 abbrev pub all_glasses : List Words → List Glass
-all_glasses [] = []
-all_glasses (l ∷ more) = if is_NM l then glass_of l (block more) ∷ all_glasses more else all_glasses more
+all_glasses lines = each_block is_NM glass_of lines
 
 -- the first glass of a name, compared after ASCII upper-casing
 abbrev pub find_glass : List ℕ → List Glass → Option Glass
@@ -161,16 +139,15 @@ book [] = []
 book (g ∷ more) = g ∷ without_name g.name.items (book more)
 
 abbrev pub glasses_unless : Option AgfFault → List Words → Result (List Glass) AgfFault
-glasses_unless (Some fault) lines = Err fault
-glasses_unless None lines = Ok (book (all_glasses lines))
+glasses_unless fault lines = ok_unless fault (book (all_glasses lines))
 
+-- the book of the lines, or the fault of the first that offends
 abbrev pub of_lines : List Words → Result (List Glass) AgfFault
 of_lines lines = glasses_unless (first_offence 1 [] lines) lines
 
--- the book of a file, or its fault: that of the text comes before all others
+-- the book of a file, or its fault
 abbrev pub of_text : Result (List (List ℕ)) TextFault → Result (List Glass) AgfFault
-of_text (Ok ls) = of_lines (each_words ls)
-of_text (Err fault) = Err (Text fault)
+of_text lines = said_by Text (λ ls. of_lines (each_words ls)) lines
 
 unfoldable pub catalogue : List ℕ → Result (List Glass) AgfFault
 catalogue bytes = of_text (text bytes)

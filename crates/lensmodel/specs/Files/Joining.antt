@@ -1,12 +1,11 @@
 -- A lens, a book of glasses, a job and a box put together as a setup, or the first cross check that refuses them.
 use Rattle.std.specs.Option.{option_map, unwrap_or}
-use Rattle.std.specs.Prelude.{ℕ, zero, suc, ◌-◌, Bool, true, false, ◌&&◌, ◌||◌, not, List, [], ◌∷◌, ◌++◌, length, take, map, slice_get, Option, Some, None, is_none, Result, Ok, Err, if◌then◌else◌}
+use Rattle.std.specs.Prelude.{ℕ, zero, suc, ◌-◌, Bool, true, false, ◌&&◌, ◌||◌, not, List, [], ◌∷◌, ◌++◌, length, take, map, slice_get, Option, Some, None, is_none, Result, if◌then◌else◌}
 use Rattle.fixdec.specs.Decimal.{Decimal}
 use Rattle.fixdec.specs.IntervalOperations.{operations}
 use Rattle.lensmodel.specs.Files.Catalogue.{find_glass, is_used}
-use Rattle.lensmodel.specs.Files.Causes.{fault_if, first_fault, each_from}
+use Rattle.lensmodel.specs.Files.Causes.{fault_if, first_fault, each_from, ok_unless}
 use Rattle.lensmodel.specs.Rows.Constants.{residual_units}
-use Rattle.lensmodel.specs.Setup.JobValue.{JobValue}
 use Rattle.lensmodel.specs.Setup.Media.{has_tolerance}
 use Rattle.lensmodel.specs.Files.Picking.{is_under, is_over, is_good_index}
 use Rattle.lensmodel.specs.Rows.Preparation.{index_row}
@@ -17,6 +16,7 @@ use Rattle.lensmodel.specs.declared.fault.CrossFault.TheVariants.{NoGlass, Formu
 use Rattle.lensmodel.specs.declared.glass.Glass.{Glass}
 use Rattle.lensmodel.specs.declared.glass.Medium.{Medium}
 use Rattle.lensmodel.specs.declared.glass.Medium.TheVariants.{Air, Of}
+use Rattle.lensmodel.specs.declared.job.Job.{Job}
 use Rattle.lensmodel.specs.declared.prescription.Prescription.{Prescription}
 use Rattle.lensmodel.specs.declared.setup.Setup.{Setup}
 use Rattle.lensmodel.specs.declared.surface.Surface.{Surface}
@@ -64,7 +64,7 @@ abbrev pub wave_of : Option Decimal → Prescription → Option Decimal
 wave_of None lens = primary_wave lens.waves.items lens.primary
 wave_of (Some wave) lens = Some wave
 
-abbrev pub setup_of : Prescription → List Glass → JobValue → Option TolBox → Decimal → Setup
+abbrev pub setup_of : Prescription → List Glass → Job → Option TolBox → Decimal → Setup
 setup_of lens book job toler wave =
     record { lens = lens; media = record { items = media_of book lens }; wave = wave; res = job.res; width = job.width; toler = toler }
 
@@ -87,17 +87,13 @@ index_faults s =
     ++ each_from (λ j f. fault_if (not f.mirror && not (has_good_index s j)) (BadIndex j)) 0 (before_image s.lens)
     ++ each_from (λ j f. fault_if (f.mirror && has_tolerance (tolerances s.toler) Indx j) (MirrorIndex j)) 0 (before_image s.lens)
 
-abbrev pub unless : Option CrossFault → Setup → Result Setup CrossFault
-unless None s = Ok s
-unless (Some fault) s = Err fault
-
 -- without a wavelength there is always a fault, at the latest NoWave
-abbrev pub joined_at : Prescription → List Glass → JobValue → Option TolBox → Option Decimal → Result Setup CrossFault
-joined_at lens book job toler None = unless (first_fault (glass_faults lens book false)) (setup_of lens book job toler zero_decimal)
+abbrev pub joined_at : Prescription → List Glass → Job → Option TolBox → Option Decimal → Result Setup CrossFault
+joined_at lens book job toler None = ok_unless (first_fault (glass_faults lens book false)) (setup_of lens book job toler zero_decimal)
 joined_at lens book job toler (Some wave) =
     let s = setup_of lens book job toler wave in
-    unless (first_fault (glass_faults lens book true ++ index_faults s)) s
+    ok_unless (first_fault (glass_faults lens book true ++ index_faults s)) s
 
 -- the setup, or the first fault
-unfoldable pub joined : Prescription → List Glass → JobValue → Option TolBox → Result Setup CrossFault
+unfoldable pub joined : Prescription → List Glass → Job → Option TolBox → Result Setup CrossFault
 joined lens book job toler = joined_at lens book job toler (wave_of job.wave lens)

@@ -1,5 +1,6 @@
 -- Text: the 16-bit units that bytes stand for, their lines, and the words of a line.
-use Rattle.std.specs.Prelude.{ℕ, suc, ◌+◌, ◌*◌, ◌%◌, Bool, true, false, ◌&&◌, ◌||◌, nat_eq, nat_le, nat_lt, not, List, [], ◌∷◌, length, drop, Option, Some, None, Result, Ok, Err, if◌then◌else◌}
+use Rattle.std.specs.Prelude.{ℕ, ◌+◌, ◌*◌, ◌%◌, Bool, true, false, ◌&&◌, ◌||◌, nat_eq, nat_le, nat_lt, not, List, [], ◌∷◌, length, drop, Option, Some, None, Result, Err, if◌then◌else◌}
+use Rattle.lensmodel.specs.Files.Causes.{first_fault, each_from, ok_unless}
 use Rattle.lensmodel.specs.declared.fault.TextFault.{TextFault}
 use Rattle.lensmodel.specs.declared.fault.TextFault.TheVariants.{OddByte, Surrogate, LongLine}
 
@@ -72,18 +73,9 @@ abbrev pub line_fault : ℕ → List ℕ → Option TextFault
 line_fault n line =
     if has_lone false line then Some (Surrogate n) else if nat_lt 4096 (length line) then Some (LongLine n) else None
 
-abbrev pub or_else : Option TextFault → Option TextFault → Option TextFault
-or_else None b = b
-or_else (Some a) b = Some a
-
 -- the fault of the first line that has one, the lines being counted from n
-abbrev pub first_fault : ℕ → List (List ℕ) → Option TextFault
-first_fault n [] = None
-first_fault n (l ∷ more) = or_else (line_fault n l) (first_fault (suc n) more)
-
-abbrev pub ok_unless : Option TextFault → List (List ℕ) → Result (List (List ℕ)) TextFault
-ok_unless None ls = Ok ls
-ok_unless (Some fault) ls = Err fault
+abbrev pub first_line_fault : ℕ → List (List ℕ) → Option TextFault
+first_line_fault n ls = first_fault (each_from line_fault n ls)
 
 -- an odd number of bytes after the mark of UTF-16
 abbrev pub is_odd : List ℕ → Bool
@@ -91,4 +83,4 @@ is_odd bytes = is_wide bytes && nat_eq (length bytes % 2) 1
 
 -- the lines of a file, or its fault: an odd byte, else that of the first line with a fault
 unfoldable pub text : List ℕ → Result (List (List ℕ)) TextFault
-text bytes = if is_odd bytes then Err OddByte else ok_unless (first_fault 1 (lines (units bytes))) (lines (units bytes))
+text bytes = if is_odd bytes then Err OddByte else ok_unless (first_line_fault 1 (lines (units bytes))) (lines (units bytes))

@@ -7,7 +7,7 @@ use Rattle.fixdec.specs.declared.step.Step.TheVariants.{Val}
 use Rattle.lensmodel.specs.Rows.Constants.{decimal_row, whole_row}
 use Rattle.lensmodel.specs.declared.launch.Launch.{Launch}
 use Rattle.lensmodel.specs.declared.launch.Launch.TheVariants.{Plain, Pupil}
-use Rattle.lensmodel.specs.declared.launch.Ratio.{Ratio}
+use Rattle.lensmodel.specs.Setup.Ratio.{Ratio}
 
 -- where a ray is, its direction, and its path so far
 pub record Incoming (A : Type 0) : Type 0 where

@@ -1,12 +1,12 @@
 -- The rays that a job asks for, one by one in their order.
-use Rattle.std.specs.Prelude.{ℕ, zero, suc, ℤ, pos, neg_ℤ, ◌+ℤ◌, ◌+◌, ◌*◌, List, [], ◌∷◌, ◌++◌, map, flat_map}
+use Rattle.std.specs.Prelude.{ℕ, zero, suc, ℤ, pos, neg_ℤ, ◌+ℤ◌, ◌+◌, ◌*◌, List, [], ◌∷◌, ◌++◌, map, flat_map, sum_by}
 use Rattle.fixdec.specs.Decimal.{Decimal}
+use Rattle.lensmodel.specs.Setup.Ratio.{Ratio}
 use Rattle.lensmodel.specs.Setup.Values.{zero_decimal}
 use Rattle.lensmodel.specs.declared.job.Ask.{Ask}
 use Rattle.lensmodel.specs.declared.job.Ask.TheVariants.{Ray, Aim, Fan, Spot, First, Seidel}
 use Rattle.lensmodel.specs.declared.launch.Launch.{Launch}
 use Rattle.lensmodel.specs.declared.launch.Launch.TheVariants.{Plain, Pupil}
-use Rattle.lensmodel.specs.declared.launch.Ratio.{Ratio}
 
 -- a decimal as a fraction
 abbrev pub plain_ratio : Decimal → Ratio
@@ -58,3 +58,7 @@ count (Seidel y u yb ub) = 0
 -- the rays of a whole job: those of its lines, joined in order
 abbrev pub job_launches : List Ask → List Launch
 job_launches asks = flat_map launches asks
+
+-- how many rays a whole job asks for
+abbrev pub job_count : List Ask → ℕ
+job_count asks = sum_by count asks

@@ -3,12 +3,13 @@ use Rattle.std.specs.Prelude.{ℕ, ◌≡◌, ◌<◌, ◌≤◌, neg_ℤ, pos, 
 use Rattle.fixdec.specs.Decimal.{Decimal}
 use Rattle.lensmodel.specs.Equations.Dispersion.{IsKnown}
 use Rattle.lensmodel.specs.Files.Joining.{has_good_index}
-use Rattle.lensmodel.specs.Setup.JobValue.{JobValue}
+use Rattle.lensmodel.specs.Setup.Launches.{job_count}
 use Rattle.lensmodel.specs.Setup.Media.{has_tolerance}
 use Rattle.lensmodel.specs.Setup.Ranges.{is_positive, is_not_negative, is_wave, is_residual, is_width, is_ask, has_place}
 use Rattle.lensmodel.specs.Setup.Values.{image, reflects, stands_on, tolerances}
 use Rattle.lensmodel.specs.Setup.WholeFaults.{whole_fault}
 use Rattle.lensmodel.specs.declared.glass.Medium.TheVariants.{Air}
+use Rattle.lensmodel.specs.declared.job.Job.{Job}
 use Rattle.lensmodel.specs.declared.prescription.Prescription.{Prescription}
 use Rattle.lensmodel.specs.declared.setup.Setup.{Setup}
 use Rattle.lensmodel.specs.declared.surface.Surface.{Surface}
@@ -49,12 +50,13 @@ pub record IsSound (lens : Prescription) : Type 0 where
   pub whole : whole_fault lens ≡ None
   pub written : IsWrittenLens lens
 
--- a job whose numbers are in their ranges
-pub record IsInRange (job : JobValue) : Type 0 where
+-- a job whose numbers are in their ranges, with at most 10,000 rays in all
+pub record IsInRange (job : Job) : Type 0 where
   pub wave : IsTrue (is_wave job.wave)
   pub residual : IsTrue (is_residual job.res)
   pub width : IsTrue (is_width job.width)
   pub asks : All (λ a. IsTrue (is_ask a)) job.asks
+  pub rays : job_count job.asks ≤ 10_000
 
 -- tolerances that make a box, by the number of the image: at most 32, none below 0, each on a surface that has such a value,
 -- and no two on the same value

@@ -1,6 +1,6 @@
 use Rattle.std.proofs.Common.{◌≡◌, ◌≤◌, ◌+◌, ℕ, [], ◌∷◌, ◌++◌, drop, length, ap, sym, ◌∙◌, arith, rules}
 use Rattle.std.specs.Prelude.{slice_range, vec_len}
-use Rattle.lensmodel.specs.Files.TextLines.{lines, line_fault, first_fault}
+use Rattle.lensmodel.specs.Files.TextLines.{lines, line_fault, first_line_fault}
 use Rattle.std.proofs.lemmas.Result.{err_from_is_err_and}
 use Rattle.lenstext.proofs.Cutting.{Kept-start, Kept-push, Kept-fault, Kept-whole, Kept-sound, text-ok, text-fault, text-odd}
 use Rattle.lenstext.proofs.text.decode.Goals as goal
@@ -22,7 +22,7 @@ returns-in_err-end-clause-fault c =
     let count : vec_len c.loop-start.ends ≡ length c.loop-start.ends.items = omega (arith, c.loop-start.ends.ok.0) in
     rw (p.1, p.2)
     (λ ne. text-fault c.args.bytes.now c.in_ok-source.source _ c.in_ok-source.ensures.even c.in_ok-source.ensures.units
-    (Kept-fault _ _ _ _ _ c.loop-start.invariant (ap (λ (n : ℕ). first_fault (n + 1) (lines (drop c.loop-start.start c.in_ok-source.source))) (sym count) ∙ c.in_err-end.ensures.fault ne)))
+    (Kept-fault _ _ _ _ _ c.loop-start.invariant (ap (λ (n : ℕ). first_line_fault (n + 1) (lines (drop c.loop-start.start c.in_ok-source.source))) (sym count) ∙ c.in_err-end.ensures.fault ne)))
 
 pub loop-start-preserved : goal.loop-start-preserved
 loop-start-preserved c =
