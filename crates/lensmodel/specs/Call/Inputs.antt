@@ -3,10 +3,11 @@
 use Rattle.std.specs.Prelude.{ℕ, ◌≡◌, ◌≤◌, ◌-◌, List, [], ◌∷◌, length, Option, Some, None, Result, Ok, Err}
 use Rattle.lensmodel.specs.Call.Answer.{Files, Named, Answer, on_file, on_read, on_checked}
 use Rattle.lensmodel.specs.Files.Catalogue.{catalogue}
-use Rattle.lensmodel.specs.Files.Job.{job_file}
+use Rattle.lensmodel.specs.Files.Job.{job as job_of}
 use Rattle.lensmodel.specs.Files.Joining.{joined}
-use Rattle.lensmodel.specs.Files.Lens.{LensFile, lens_file}
-use Rattle.lensmodel.specs.Files.Tolerances.{box_file}
+use Rattle.lensmodel.specs.Files.Lens.{prescription}
+use Rattle.lensmodel.specs.Files.LensFile.{LensFile}
+use Rattle.lensmodel.specs.Files.Tolerances.{tolerance_box}
 use Rattle.lensmodel.specs.Texts.FaultText.{zmx_cause, agf_cause, job_cause, tol_cause}
 use Rattle.lensmodel.specs.declared.glass.Glass.{Glass}
 use Rattle.lensmodel.specs.declared.job.Ask.{Ask}
@@ -41,34 +42,35 @@ inputs_named i = (Zmx, i.zmx) ∷ (Agf, i.agf) ∷ (JobFile, i.job) ∷ box_name
 
 -- ---- each file
 abbrev pub on_lens : Files → List ℕ → (LensFile → Answer) → Answer
-on_lens files name go_on = on_file Zmx (files name) (λ bytes. on_read Zmx zmx_cause (lens_file bytes) go_on)
+on_lens files name go_on = on_file Zmx (files name) (λ bytes. on_read Zmx zmx_cause (prescription bytes) go_on)
 
 abbrev pub on_catalogue : Files → List ℕ → (List Glass → Answer) → Answer
 on_catalogue files name go_on = on_file Agf (files name) (λ bytes. on_read Agf agf_cause (catalogue bytes) go_on)
 
 abbrev pub on_job : Files → List ℕ → (Job → Answer) → Answer
-on_job files name go_on = on_file JobFile (files name) (λ bytes. on_read JobFile job_cause (job_file bytes) go_on)
+on_job files name go_on = on_file JobFile (files name) (λ bytes. on_read JobFile job_cause (job_of bytes) go_on)
 
--- the box of a lens with so many surfaces, where one is named
+-- the box of a lens whose last surface has the number image, where one is named
 abbrev pub on_box : Files → ℕ → Option (List ℕ) → (Option TolBox → Answer) → Answer
-on_box files surfaces None go_on = go_on None
-on_box files surfaces (Some name) go_on = on_file Tol (files name) (λ bytes. on_read Tol tol_cause (box_file surfaces bytes) (λ box. go_on (Some box)))
+on_box files image None go_on = go_on None
+on_box files image (Some name) go_on = on_file Tol (files name) (λ bytes. on_read Tol tol_cause (tolerance_box bytes image) (λ box. go_on (Some box)))
 
-abbrev pub surface_count : Prescription → ℕ
-surface_count lens = length lens.surfaces.items
+-- the number of the last surface
+abbrev pub image_of : Prescription → ℕ
+image_of lens = length lens.surfaces.items - 1
 
 -- the setup and the job of all of them, in the order in which they are read
 abbrev pub on_inputs : Files → Inputs → (Setup → Job → Answer) → Answer
 on_inputs files i go_on =
     on_lens files i.zmx (λ read. on_catalogue files i.agf (λ book. on_job files i.job (λ job.
-    on_box files (surface_count read.lens) i.tol (λ box. on_checked (joined read.lens book job box) (λ s. go_on s job)))))
+    on_box files (image_of read.lens) i.tol (λ box. on_checked (joined read.lens book job box) (λ s. go_on s job)))))
 
 -- ---- what they give, as a fact
 -- the box that the file of a name holds
 abbrev pub HasBoxFile : Files → ℕ → Option (List ℕ) → Option TolBox → Type 0
-HasBoxFile files surfaces None box = box ≡ None
-HasBoxFile files surfaces (Some name) None = ⊥
-HasBoxFile files surfaces (Some name) (Some box) = (bytes : List ℕ) × (files name ≡ Some bytes) × (box_file surfaces bytes ≡ Ok box)
+HasBoxFile files image None box = box ≡ None
+HasBoxFile files image (Some name) None = ⊥
+HasBoxFile files image (Some name) (Some box) = (bytes : List ℕ) × (files name ≡ Some bytes) × (tolerance_box bytes image ≡ Ok box)
 
 -- the files held by the names are accepted, and make this setup and this job
 pub record AreInputs (files : Files) (i : Inputs) (s : Setup) (job : Job) : Type 0 where
@@ -81,8 +83,8 @@ pub record AreInputs (files : Files) (i : Inputs) (s : Setup) (job : Job) : Type
   pub zmx : files i.zmx ≡ Some zmx_bytes
   pub agf : files i.agf ≡ Some agf_bytes
   pub job_held : files i.job ≡ Some job_bytes
-  pub lens_read : lens_file zmx_bytes ≡ Ok file
+  pub lens_read : prescription zmx_bytes ≡ Ok file
   pub book_read : catalogue agf_bytes ≡ Ok book
-  pub job_read : job_file job_bytes ≡ Ok job
-  pub box_read : HasBoxFile files (surface_count file.lens) i.tol box
+  pub job_read : job_of job_bytes ≡ Ok job
+  pub box_read : HasBoxFile files (image_of file.lens) i.tol box
   pub setup : joined file.lens book job box ≡ Ok s
