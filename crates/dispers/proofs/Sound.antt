@@ -9,12 +9,11 @@ use Rattle.fixdec.specs.Algebra.MemberLaws.{units_pos}
 use Rattle.fixdec.specs.Algebra.Order.{le_trans, le_whole}
 use Rattle.fixdec.specs.Algebra.OrderLaws.{le_cancel, le_same_left, le_same_right, whole_mul}
 use Rattle.fixdec.specs.Algebra.FracLaws.{≈_sym}
-use Rattle.lensmodel.specs.Equations.Dispersion.{IsGlassIndex, IsIndex}
-use Rattle.lensmodel.specs.Files.Picking.{Picked, picked, picked_medium}
+use Rattle.lensmodel.specs.Equations.Dispersion.{IsGlassIndex}
+use Rattle.lensmodel.specs.Files.Picking.{Picked, picked}
 use Rattle.lensmodel.specs.Equations.Residual.{residual}
 use Rattle.lensmodel.specs.declared.fault.CrossFault.{CrossFault}
 use Rattle.lensmodel.specs.declared.glass.Glass.{Glass}
-use Rattle.lensmodel.specs.declared.glass.Medium.{Medium}
 use Rattle.dispers.specs.IndexAt12.{index_at_12-holds}
 use Rattle.dispers.specs.Limits.{IsFrom1To5}
 use Rattle.dispers.specs.Picked.{known_if_used, picked-is}
@@ -40,15 +39,8 @@ module _ (book : List Glass) (name : List ℕ) (wave : Decimal) where
           let u = (picked-is book name wave p i).usable in
           λ n h. index_at_12-holds p.glass wave p.index (known_if_used p.glass.formula u.used) u.index n h
 
-  -- each index of a medium is from 1 to 5
-  abbrev pub IsSound : Medium → Type 0
-  IsSound m = (n : Frac) → IsIndex (residual 12) m wave n → IsFrom1To5 n
-
-  pub picked-sound : (r : Result Medium CrossFault) → r ≡ picked_medium (picked book name wave) → IfOk r IsSound
-  picked-sound r e = subst (λ x. IfOk x IsSound) (sym e) (by (picked book name wave) refl)
-    where
-      by : (p : Result Picked CrossFault) → picked book name wave ≡ p → IfOk (picked_medium p) IsSound
-      by (Err fault) i = tt
-      by (Ok p) i =
-          let u = (picked-is book name wave p i).usable in
-          λ n h. within_limits p.index n u.least u.greatest (index_at_12-holds p.glass wave p.index (known_if_used p.glass.formula u.used) u.index n h)
+  -- each index of a glass that was picked is from 1 to 5
+  pub picked-sound : (p : Picked) → picked book name wave ≡ Ok p → (n : Frac) → IsGlassIndex (residual 12) p.glass wave n → IsFrom1To5 n
+  picked-sound p e n h =
+      let u = (picked-is book name wave p e).usable in
+      within_limits p.index n u.least u.greatest (index_at_12-holds p.glass wave p.index (known_if_used p.glass.formula u.used) u.index n h)

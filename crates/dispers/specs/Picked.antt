@@ -1,6 +1,6 @@
 -- What is known of a glass that was picked.
 use Rattle.std.specs.Prelude.{◌≡◌, ◌⊎◌, ℕ, pos, ◌≤ℤ◌, Bool, true, false, List, Option, Some, None, Result, Ok, Err, not, if◌then◌else◌}
-use Rattle.std.proofs.Common.{refl, arith}
+use Rattle.std.proofs.Common.{refl, arith, subst}
 use Rattle.std.proofs.lemmas.Bool.Decides.{nat_tests}
 use Rattle.std.proofs.lemmas.Int.{ints}
 use Rattle.fixdec.specs.Decimal.{Decimal}
@@ -31,10 +31,10 @@ pub record IsPicked (book : List Glass) (name : List ℕ) (wave : Decimal) (p : 
 pub known_if_used : (formula : ℕ) → is_used formula ≡ true → (formula ≡ 1) ⊎ (formula ≡ 2)
 known_if_used formula h = grind (arith, nat_tests)
 
--- a glass with an index that is good is the glass that was looked at, and its index an interval from 1 to 5
-ok_same : {A E : Type 0} {a b : A} → Ok {T = A} {E = E} a ≡ Ok b → a ≡ b
-ok_same e = cc
+ok_same : (r : Result Picked CrossFault) (p q : Picked) → r ≡ Ok p → r ≡ Ok q → p ≡ q
+ok_same r p q e f = cc
 
+-- a glass with an index that is good is the glass that was looked at, and its index an interval from 1 to 5
 record IsGood (g : Glass) (r : Step Ends) (p : Picked) : Type 0 where
   glass : g ≡ p.glass
   index : r ≡ Val p.index
@@ -43,7 +43,9 @@ record IsGood (g : Glass) (r : Step Ends) (p : Picked) : Type 0 where
 
 from_good : (good : Bool) (g : Glass) (n : Ends) (p : Picked) → is_from_1_to_5 n ≡ good
     → (if good then Ok (record { glass = g; index = n }) else Err (BadIndex 0)) ≡ Ok p → IsGood g (Val n) p
-from_good true g n p h e = rw (← ok_same e) (record { glass = refl; index = refl; least = grind (arith, ints); greatest = grind (arith, ints) })
+from_good true g n p h e =
+    let same : record { glass = g; index = n } ≡ p = ok_same (Ok (record { glass = g; index = n })) (record { glass = g; index = n }) p refl e in
+    subst (λ (p : Picked). IsGood g (Val n) p) same (record { glass = refl; index = refl; least = grind (arith, ints); greatest = grind (arith, ints) })
 from_good false g n p h e = cc
 
 good-is : (g : Glass) (r : Step Ends) (p : Picked) → with_index g r ≡ Ok p → IsGood g r p

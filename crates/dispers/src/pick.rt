@@ -91,21 +91,35 @@ fn usable<'a>(glass: &'a Glass, wave: &Dec) -> Result<Picked<'a>, CrossFault>
     if is_under(wave, &glass.low) || is_over(wave, &glass.high) {
         return Err(CrossFault::WaveRange { surface: 0 });
     }
-    match index_at_12(glass, wave) {
-        Step::Val(n) => with_index(glass, n.hull()),
+    with_index(glass, index_at_12(glass, wave))
+}
+
+/// A glass with its index, where it has one from 1 to 5.
+fn with_index(glass: &Glass, index: Step<Iv<12>>) -> Result<Picked<'_>, CrossFault>
+    ensures { result ≡ picking.with_index glass.now index }
+{
+    match index {
+        Step::Val(n) => with_ends(glass, n.hull()),
         Step::Empty | Step::Lost(_) => Err(CrossFault::BadIndex { surface: 0 }),
     }
 }
 
-/// A glass with an index that is from 1 to 5.
-fn with_index(glass: &Glass, index: Span) -> Result<Picked<'_>, CrossFault>
+/// A glass with its index, where that is from 1 to 5.
+fn with_ends(glass: &Glass, index: Span) -> Result<Picked<'_>, CrossFault>
     ensures { result ≡ picking.with_index glass.now (Step.Val index) }
 {
-    if ONE <= index.lo && index.hi <= 5 * ONE {
+    if is_from_1_to_5(index) {
         Ok(Picked { glass, index })
     } else {
         Err(CrossFault::BadIndex { surface: 0 })
     }
+}
+
+/// Whether an index at scale 12 lies from 1 to 5.
+fn is_from_1_to_5(n: Span) -> bool
+    ensures { result ≡ picking.is_from_1_to_5 n }
+{
+    ONE <= n.lo && n.hi <= 5 * ONE
 }
 
 /// Whether a formula is one that is used.
@@ -137,7 +151,7 @@ fn is_over(wave: &Dec, high: &Option<Dec>) -> bool
 
 /// The index of a glass of formula 1 or 2 at a wavelength in micrometres, at scale 12, with the
 /// residual one unit.
-pub fn index_at_12(glass: &Glass, wave: &Dec) -> Step<Iv<12>>
+fn index_at_12(glass: &Glass, wave: &Dec) -> Step<Iv<12>>
     requires { (glass.now.formula ≡ 1) ⊎ (glass.now.formula ≡ 2) }
     ensures { result ≡ picking.index_at_12 glass.now wave.now }
 {

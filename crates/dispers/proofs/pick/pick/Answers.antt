@@ -1,17 +1,9 @@
-use Rattle.lensmodel.specs.Files.Picking.{picked}
+use Rattle.std.proofs.Common.{◌≡◌, ◌∙◌, sym}
 use Rattle.dispers.proofs.Sound.{picked-sound}
 use Rattle.dispers.proofs.pick.pick.Goals as goal
 
-pub returns-in-Some-clause-exact : goal.returns-in-Some-clause-exact
-unfolding picked
-returns-in-Some-clause-exact c = let h = c.in-Some.ensures in rw (← h) c.usable.ensures
-
-pub returns-in-None-clause-exact : goal.returns-in-None-clause-exact
-unfolding picked
-returns-in-None-clause-exact c = let h = c.in-None.ensures in rw (← h)
-
-pub returns-in-Some-clause-sound : goal.returns-in-Some-clause-sound
-returns-in-Some-clause-sound c = picked-sound c.args.book.now c.args.name.now.items c.args.wave.now _ (returns-in-Some-clause-exact c)
-
-pub returns-in-None-clause-sound : goal.returns-in-None-clause-sound
-returns-in-None-clause-sound c = picked-sound c.args.book.now c.args.name.now.items c.args.wave.now _ (returns-in-None-clause-exact c)
+pub returns-in-Ok-clause-sound : goal.returns-in-Ok-clause-sound
+returns-in-Ok-clause-sound c =
+    let found = sym c.find.ensures.exact ∙ c.in-Ok.is in
+    let same : c.copy.result ≡ c.in-Ok.picked.glass = let v = c.picked.view_is in c.copy.ensures ∙ cc in
+    rw same (picked-sound c.args.book.now c.args.name.now.items c.args.wave.now c.in-Ok.picked found)
