@@ -50,11 +50,7 @@ impl<'a> Model for Picked<'a> {
 /// micrometres above 0. It is refused, as surface 0, by the first of these that holds: the book has
 /// no such glass, its formula isn't 1 or 2, the wavelength is outside its range, or its index at
 /// scale 12 isn't enclosed between 1 and 5.
-pub fn find<'a>(
-    book: &'a GlassBook,
-    name: &Name,
-    wave: &Dec,
-) -> Result<Picked<'a>, CrossFault>
+pub fn find<'a>(book: &'a GlassBook, name: &Name, wave: &Dec) -> Result<Picked<'a>, CrossFault>
     requires { pos 0 <ℤ wave.now.mant }
     ensures exact { result ≡ picking.picked book.now name.now.items wave.now }
 

@@ -3,7 +3,7 @@ use Rattle.std.proofs.Common.{◌≡◌, ℕ, List, subst, ap, ◌∙◌, inl, i
 use Rattle.std.specs.Prelude.{Option}
 use Rattle.lensio.specs.Taken.{Takes}
 use Rattle.lensmodel.specs.Call.Answer.{Files, Answer}
-use Rattle.lensmodel.specs.Call.TopCall.{outcome}
+use Rattle.lensrun.specs.Built.{outcome}
 use Rattle.lensmodel.specs.declared.status.Status.{Status}
 use Rattle.lensrun.specs.Due.{Delivers}
 use Rattle.lensrun.specs.Promise.{OfFiles, IsDecided, IsDue}

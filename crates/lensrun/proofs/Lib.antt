@@ -1,5 +1,5 @@
 mod Deliveries
+mod Faults
 mod Lines
 mod Meaning
 mod Outcomes
-mod Usability

@@ -1,81 +1,109 @@
 -- The outcome of a call means what its command asks for.
-use Rattle.std.proofs.Common.{◌≡◌, ℕ, Bool, true, false, List, length, Option, Some, None, Result, Ok, Err, refl, if◌then◌else◌}
+use Rattle.std.proofs.Common.{◌≡◌, ℕ, Bool, true, false, List, [], ◌∷◌, length, Option, Some, None, Result, Ok, Err, refl, if◌then◌else◌}
 use Rattle.std.specs.Prelude.{nat_lt}
-use Rattle.fixdec.specs.Decimal.{Decimal}
+use Rattle.dispers.specs.IndexAt12.{index_at_12-holds}
+use Rattle.dispers.specs.Picked.{IsPicked, known_if_used, picked-is}
+use Rattle.lensmodel.specs.Call.Answer.{Files, Answer, answer, on_file, on_read, on_checked}
+use Rattle.lensmodel.specs.Call.Index.{Index, PrintsIndex, index_answer}
+use Rattle.lensmodel.specs.Call.TopCall as top
+use Rattle.lensmodel.specs.Call.TopCall.{Command, Means, command_answer, command_by, if_built, index, glass, read, trace, trace_json, first, seidel}
 use Rattle.lensmodel.specs.Files.Catalogue.{catalogue}
-use Rattle.lensmodel.specs.Texts.FaultText.{too_long_line}
-use Rattle.lensmodel.specs.Call.Index.{PrintsIndex}
-use Rattle.lensmodel.specs.Call.TopCall.{Means}
-use Rattle.lensmodel.specs.Files.Picking.{picked, index_at_12}
-use Rattle.lensmodel.specs.Call.Answer.{Files, Answer, answer, on_file}
-use Rattle.lensmodel.specs.Call.TopCall.{Command, index, glass, on_book, on_glass, printed_index, command_answer, command_of, outcome}
-use Rattle.lensmodel.specs.Call.Index.{index_answer}
+use Rattle.lensmodel.specs.Files.Picking.{Picked, picked}
+use Rattle.lensmodel.specs.Texts.FaultText.{agf_cause, too_long_line}
+use Rattle.lensmodel.specs.Texts.Index.{index_line}
 use Rattle.lensmodel.specs.declared.fault.AgfFault.{AgfFault}
 use Rattle.lensmodel.specs.declared.fault.CrossFault.{CrossFault}
 use Rattle.lensmodel.specs.declared.glass.Glass.{Glass}
 use Rattle.lensmodel.specs.declared.status.FileKind.TheVariants.{Agf}
 use Rattle.lensmodel.specs.declared.status.Status.TheVariants.{Done, TooLong}
-use Rattle.dispers.specs.IndexAt12.{index_at_12-holds}
-use Rattle.dispers.specs.Picked.{IsPicked, known_if_used, picked-is}
+use Rattle.lensrun.specs.Built.{command_of, is_built, outcome}
 
-module _ (files : Files) (agf name : List ℕ) (wave : Decimal) where
+module _ (files : Files) (c : Index) where
   -- an answer that is done prints the index
   PrintsWhenDone : Answer → Type 0
-  PrintsWhenDone a = a.status ≡ Done → PrintsIndex files agf name wave a.text
+  PrintsWhenDone a = a.status ≡ Done → PrintsIndex files c a.text
 
-  glass-means : (bytes : List ℕ) (book : List Glass) (g : Glass) → files agf ≡ Some bytes → catalogue bytes ≡ Ok book → IsPicked book name wave g
-      → PrintsWhenDone (printed_index g wave (index_at_12 g wave))
-  unfolding PrintsWhenDone
-  glass-means bytes book g held read p =
-      let u = p.usable in
-      rw u.index (λ done. record {
+  -- the line of a glass with its index
+  line : Picked → Answer
+  line p = answer Done (index_line p.glass.name.items c.wave p.index)
+
+  line-means : (bytes : List ℕ) (book : List Glass) (p : Picked) → files c.agf ≡ Some bytes → catalogue bytes ≡ Ok book → IsPicked book c.name c.wave p
+      → PrintsWhenDone (line p)
+  unfolding PrintsWhenDone line
+  line-means bytes book p held is h =
+      let u = h.usable in
+      λ done. record {
         bytes = bytes;
         book = book;
-        found = g;
-        ends = u.ends;
+        found = p.glass;
+        ends = p.index;
         held = held;
-        read = read;
-        first = p.found;
+        read = is;
+        first = h.found;
         printed = refl;
-        holds = index_at_12-holds g wave u.ends (known_if_used g.formula u.used) u.index;
-      })
+        holds = index_at_12-holds p.glass c.wave p.index (known_if_used p.glass.formula u.used) u.index;
+      }
 
-  picked-means : (bytes : List ℕ) (book : List Glass) → files agf ≡ Some bytes → catalogue bytes ≡ Ok book → PrintsWhenDone (on_glass (picked book name wave) wave)
+  book-means : (bytes : List ℕ) (book : List Glass) → files c.agf ≡ Some bytes → catalogue bytes ≡ Ok book → PrintsWhenDone (on_checked (picked book c.name c.wave) line)
   unfolding PrintsWhenDone
-  picked-means bytes book held read = by (picked book name wave) refl
+  book-means bytes book held is = by (picked book c.name c.wave) refl
     where
-      by : (r : Result Glass CrossFault) → picked book name wave ≡ r → PrintsWhenDone (on_glass r wave)
+      by : (r : Result Picked CrossFault) → picked book c.name c.wave ≡ r → PrintsWhenDone (on_checked r line)
       by (Err fault) e = λ done. cc
-      by (Ok g) e = glass-means bytes book g held read (picked-is book name wave g e)
+      by (Ok p) e = line-means bytes book p held is (picked-is book c.name c.wave p e)
 
-  book-means : (bytes : List ℕ) → files agf ≡ Some bytes → PrintsWhenDone (on_book (catalogue bytes) (λ book. on_glass (picked book name wave) wave))
+  bytes-mean : (bytes : List ℕ) → files c.agf ≡ Some bytes → PrintsWhenDone (on_read Agf agf_cause (catalogue bytes) (λ book. on_checked (picked book c.name c.wave) line))
   unfolding PrintsWhenDone
-  book-means bytes held = by (catalogue bytes) refl
+  bytes-mean bytes held = by (catalogue bytes) refl
     where
-      by : (r : Result (List Glass) AgfFault) → catalogue bytes ≡ r → PrintsWhenDone (on_book r (λ book. on_glass (picked book name wave) wave))
+      by : (r : Result (List Glass) AgfFault) → catalogue bytes ≡ r → PrintsWhenDone (on_read Agf agf_cause r (λ book. on_checked (picked book c.name c.wave) line))
       by (Err fault) e = λ done. cc
-      by (Ok book) e = picked-means bytes book held e
+      by (Ok book) e = book-means bytes book held e
 
-  index-means : PrintsWhenDone (index_answer files agf name wave)
-  unfolding PrintsWhenDone
-  index-means = by (files agf) refl
+  index-means : PrintsWhenDone (index_answer files c)
+  unfolding PrintsWhenDone line
+  index-means = by (files c.agf) refl
     where
       in_time : (long : Bool) (a : Answer) → PrintsWhenDone a → PrintsWhenDone (if long then answer TooLong (too_long_line Agf) else a)
       in_time true a h = λ done. cc
       in_time false a h = h
 
-      by : (o : Option (List ℕ)) → files agf ≡ o
-          → PrintsWhenDone (on_file Agf o (λ bytes. on_book (catalogue bytes) (λ book. on_glass (picked book name wave) wave)))
+      by : (o : Option (List ℕ)) → files c.agf ≡ o
+          → PrintsWhenDone (on_file Agf o (λ bytes. on_read Agf agf_cause (catalogue bytes) (λ book. on_checked (picked book c.name c.wave) line)))
       by None e = λ done. cc
-      by (Some bytes) e = in_time (nat_lt 16_777_216 (length bytes)) _ (book-means bytes e)
+      by (Some bytes) e = in_time (nat_lt 16_777_216 (length bytes)) _ (bytes-mean bytes e)
 
-command-means : (files : Files) (c : Option Command) → Means files c (command_answer files c)
-unfolding PrintsWhenDone
-command-means files None = tt
-command-means files (Some (index agf name wave)) = index-means files agf name wave
-command-means files (Some (glass agf)) = tt
+-- a command that is built
+IsBuilt : Option Command → Type 0
+IsBuilt None = Unit {0}
+IsBuilt (Some c) = is_built c ≡ true
+
+command-means : (files : Files) (c : Option Command) → IsBuilt c → Means files c (command_answer files c)
+unfolding PrintsWhenDone IsBuilt
+command-means files None b = tt
+command-means files (Some (index c)) b = index-means files c
+command-means files (Some (glass agf)) b = λ done. tt
+command-means files (Some (read zmx)) b = absurd (cc)
+command-means files (Some (trace i)) b = absurd (cc)
+command-means files (Some (trace_json i)) b = absurd (cc)
+command-means files (Some (first i)) b = absurd (cc)
+command-means files (Some (seidel i)) b = absurd (cc)
+
+if_built-is : (o : Option Command) → IsBuilt (if_built is_built o)
+unfolding IsBuilt
+if_built-is None = tt
+if_built-is (Some c) = by (is_built c) refl
+  where
+    by : (b : Bool) → is_built c ≡ b → IsBuilt (if b then Some c else None)
+    by true e = e
+    by false e = tt
+
+command-is : (words : List (List ℕ)) → IsBuilt (command_of words)
+unfolding IsBuilt
+command-is [] = tt
+command-is (word ∷ rest) = if_built-is (command_by word rest)
 
 -- what the words ask for is what the outcome means
 pub outcome-means : (files : Files) (words : List (List ℕ)) → Means files (command_of words) (outcome files words)
-unfolding outcome
-outcome-means files words = command-means files (command_of words)
+unfolding top.outcome
+outcome-means files words = command-means files (command_of words) (command-is words)

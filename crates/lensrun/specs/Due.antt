@@ -5,17 +5,20 @@ use Rattle.lensio.specs.Taken.{Takes, TakesFront}
 use Rattle.lensio.specs.declared.transfer.SlurpFault.{SlurpFault}
 use Rattle.lensio.specs.declared.transfer.SlurpFault.TheVariants as slurped
 use Rattle.lensmodel.specs.Files.Catalogue.{catalogue}
-use Rattle.lensmodel.specs.Texts.FaultText.{absent_line, read_fault_line, too_long_line}
+use Rattle.lensmodel.specs.Texts.FaultText.{agf_cause, absent_line, read_fault_line, too_long_line}
 use Rattle.lensmodel.specs.Files.Picking.{picked}
 use Rattle.lensmodel.specs.Texts.Book.{book_text}
-use Rattle.lensmodel.specs.Call.Answer.{Answer, answer}
-use Rattle.lensmodel.specs.Call.TopCall.{Command, index, glass, on_book, on_glass}
+use Rattle.lensmodel.specs.Texts.Index.{index_line}
+use Rattle.lensmodel.specs.Call.Answer.{Answer, answer, on_checked, on_read}
 use Rattle.lensmodel.specs.declared.glass.Glass.{Glass}
 use Rattle.lensmodel.specs.declared.status.FileKind.{FileKind}
+use Rattle.lensmodel.specs.declared.status.FileKind.TheVariants.{Agf}
 use Rattle.lensmodel.specs.declared.status.Status.{Status}
 use Rattle.lensmodel.specs.declared.status.Status.TheVariants.{Done, Absent, ReadFault, TooLong, WriteFault, Memory}
 use Rattle.lensrun.specs.declared.due.Due.{Due}
 use Rattle.lensrun.specs.declared.due.Due.TheVariants.{Line, Glasses, Nothing}
+use Rattle.lensrun.specs.declared.words.Command.{Command}
+use Rattle.lensrun.specs.declared.words.Command.TheVariants as asked
 
 -- what is due, as an answer
 abbrev pub due_answer : Due → Answer
@@ -36,12 +39,12 @@ unread_answer file slurped.Memory = answer Memory []
 
 -- what a command answers over a book
 abbrev pub book_answer : Command → List Glass → Answer
-book_answer (index agf name wave) book = on_glass (picked book name wave) wave
-book_answer (glass agf) book = answer Done (book_text book)
+book_answer (asked.Index agf name wave) book = on_checked (picked book name.items wave) (λ p. answer Done (index_line p.glass.name.items wave p.index))
+book_answer (asked.Glass agf) book = answer Done (book_text book)
 
 -- what a command answers over the bytes of its catalogue
 abbrev pub bytes_answer : Command → List ℕ → Answer
-bytes_answer command bytes = on_book (catalogue bytes) (book_answer command)
+bytes_answer command bytes = on_read Agf agf_cause (catalogue bytes) (book_answer command)
 
 -- the call ended with an answer's status and wrote its text, or a front of it to a sink that failed
 abbrev pub Delivers : Answer → Status → Option (List ℕ) → Option (List ℕ) → ℕ → ℕ → Type 0

@@ -1,4 +1,4 @@
 pub mod Asked
+pub mod Built
 pub mod Due
 pub mod Promise
-pub mod Usable

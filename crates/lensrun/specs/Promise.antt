@@ -4,9 +4,10 @@ use Rattle.lensio.specs.Taken.{Takes, TakesFront}
 use Rattle.lensmodel.specs.Texts.FaultText.{read_fault_line}
 use Rattle.lensmodel.specs.Call.TopCall.{Means}
 use Rattle.lensmodel.specs.Call.Answer.{Files}
-use Rattle.lensmodel.specs.Call.TopCall.{Command, command_of, files_of, outcome}
+use Rattle.lensmodel.specs.Call.TopCall.{Command, files_of}
 use Rattle.lensmodel.specs.declared.status.Status.{Status}
 use Rattle.lensmodel.specs.declared.status.Status.TheVariants.{Done, Usage, Refused, Absent, ReadFault, TooLong, WriteFault, Memory}
+use Rattle.lensrun.specs.Built.{command_of, outcome}
 
 -- P of the files that are told, or of some files where none are told
 abbrev pub OfFiles : Option Files → (Files → Type 0) → Type 0

@@ -3,7 +3,7 @@
 ghost use Rattle.std.specs.Prelude.{◌≡◌, ◌≢◌, ◌+◌, ◌<◌, map};
 ghost use Rattle.lensio.specs.Count.{Rose, RoseBy};
 ghost use Rattle.lensio.specs.Taken.{TakesFront};
-ghost use Rattle.lensmodel.specs.Call.TopCall as top;
+ghost use Rattle.lensrun.specs.Built as top;
 ghost use Rattle.lensrun.specs.Due.{due_answer};
 ghost use Rattle.lensrun.specs.Promise.{OfFiles, IsDecided, IsReadFaultLine, names_of};
 

@@ -3,7 +3,7 @@
 ghost use Rattle.std.specs.Prelude.{◌≡◌, ◌≢◌, ◌+◌, ◌⊎◌, ◌<◌, [], None, map};
 ghost use Rattle.lensio.specs.Count.{Rose, RoseBy};
 ghost use Rattle.lensio.specs.Taken.{Takes, TakesFront};
-ghost use Rattle.lensmodel.specs.Call.TopCall.{command_of};
+ghost use Rattle.lensrun.specs.Built.{command_of};
 ghost use Rattle.lensrun.specs.Promise.{IsComplete, IsDecided, IsDue, OfFiles, WritesDueFront, WritesReadFault, WritesReadFaultFront, names_of};
 
 use crate::deliver::deliver;

@@ -1,9 +1,12 @@
 //! The words of a call.
 
-ghost use Rattle.std.specs.Prelude.{◌≡◌, map, [], ◌∷◌, IfSome};
+ghost use Rattle.std.specs.Prelude.{◌≡◌, map, [], ◌∷◌, IfSome, option_map};
+ghost use Rattle.lensmodel.specs.Call.Glass as glass;
+ghost use Rattle.lensmodel.specs.Call.Index as index;
 ghost use Rattle.lensmodel.specs.Call.TopCall as top;
+ghost use Rattle.lensrun.specs.Built.{command_of, is_built};
 ghost use Rattle.lensmodel.specs.declared.status.FileKind.TheVariants.{Agf};
-ghost use Rattle.lensrun.specs.Asked.{asked, asked_if, HasWavelength, name_within};
+ghost use Rattle.lensrun.specs.Asked.{asked, asked_if, catalogue_of, HasWavelength, name_within};
 
 use arrayvec::ArrayVec;
 use exactdec::read;
@@ -32,7 +35,8 @@ pub enum Command<'a> {
 impl<'a> Command<'a> {
     /// The name of the catalogue's file.
     pub fn catalogue(&self) -> &'a [u8]
-        ensures { top.files_of (asked self.now) ≡ (Agf, result.now) ∷ [] }
+        ensures name { result.now ≡ catalogue_of self.now }
+        ensures files { top.files_of (asked self.now) ≡ (Agf, result.now) ∷ [] }
     {
         match self {
             Command::Index { catalogue, .. } => catalogue,
@@ -57,22 +61,34 @@ pub fn units<const N: usize>(bytes: &[u8]) -> Option<ArrayVec<u16, N>>
 
 /// A decimal above 0.
 fn above_zero(value: Option<Dec>) -> Option<Dec>
-    ensures { result ≡ top.positive_if value }
+    ensures { result ≡ index.positive_if value }
 {
     value.filter(|value| 0 < value.mant)
 }
 
 /// A decimal above 0 of at most 64 bytes.
 fn positive(word: &[u8]) -> Option<Dec>
-    ensures { result ≡ top.positive_decimal word.now }
+    ensures { result ≡ index.positive_decimal word.now }
 {
     let letters: ArrayVec<u16, 64> = units(word)?;
     above_zero(read::read(letters.as_slice()).ok())
 }
 
 /// The words after `index`.
+fn index_words(words: &[Vec<u8>]) -> Option<Command<'_>>
+    ensures exact { asked_if result ≡ option_map top.index (index.index_words (map (λ w. w.items) words.now)) }
+    ensures wave { IfSome result HasWavelength }
+{
+    let [catalogue, glass, wave] = words else {
+        return None;
+    };
+    index_command(catalogue.as_slice(), glass.as_slice(), wave.as_slice())
+}
+
+/// A catalogue, a glass and a wavelength.
 fn index_command<'a>(catalogue: &'a [u8], glass: &[u8], wave: &[u8]) -> Option<Command<'a>>
-    ensures { asked_if result ≡ top.index_command catalogue.now glass.now (top.positive_decimal wave.now) }
+    ensures exact { asked_if result ≡ option_map top.index (index.index_if catalogue.now glass.now (index.positive_decimal wave.now)) }
+    ensures wave { IfSome result HasWavelength }
 {
     let wave = positive(wave)?;
     let glass = units(glass)?;
@@ -83,18 +99,30 @@ fn index_command<'a>(catalogue: &'a [u8], glass: &[u8], wave: &[u8]) -> Option<C
     })
 }
 
+/// The words after `glass`.
+fn glass_words(words: &[Vec<u8>]) -> Option<Command<'_>>
+    ensures exact { asked_if result ≡ option_map top.glass (glass.glass_words (map (λ w. w.items) words.now)) }
+    ensures wave { IfSome result HasWavelength }
+{
+    let [catalogue] = words else {
+        return None;
+    };
+    Some(Command::Glass {
+        catalogue: catalogue.as_slice(),
+    })
+}
+
 /// The command that the words ask for; None where they fit no command.
 pub fn command_of(words: &[Vec<u8>]) -> Option<Command<'_>>
-    ensures exact { asked_if result ≡ top.command_of (map (λ w. w.items) words.now) }
-    ensures wave { IfSome result (λ c. HasWavelength (asked c)) }
+    ensures exact { asked_if result ≡ command_of (map (λ w. w.items) words.now) }
+    ensures wave { IfSome result HasWavelength }
 {
-    match words {
-        [name, catalogue] if name.as_slice() == b"glass".as_slice() => Some(Command::Glass {
-            catalogue: catalogue.as_slice(),
-        }),
-        [name, catalogue, glass, wave] if name.as_slice() == b"index".as_slice() => {
-            index_command(catalogue.as_slice(), glass.as_slice(), wave.as_slice())
-        }
-        _ => None,
+    let (name, rest) = words.split_first()?;
+    if name.as_slice() == b"index".as_slice() {
+        index_words(rest)
+    } else if name.as_slice() == b"glass".as_slice() {
+        glass_words(rest)
+    } else {
+        None
     }
 }
