@@ -6,7 +6,7 @@ ghost use Rattle.lensio.specs.Count.{Rose, RoseBy};
 ghost use Rattle.lensio.specs.Taken.{Takes, TakesFront};
 ghost use Rattle.lensprogram.specs.Ending.{Ends, exit_code, said_after_name, said_in};
 ghost use Rattle.lensrun.specs.Promise.{IsComplete, IsDecided, IsDue, OfFiles, names_of};
-ghost use Rattle.lensmodel.specs.Call.TopCall.{command_of};
+ghost use Rattle.lensrun.specs.Built.{command_of};
 
 use lensio::disk::SystemDisk;
 use lensio::shelf::Shelf;
