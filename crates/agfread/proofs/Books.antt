@@ -1,29 +1,12 @@
 -- A book with one more glass.
 use Rattle.std.specs.Prelude.{◌≡◌, ℕ, true, false, List, [], ◌∷◌, ◌++◌, map, nat_eq, Some, if◌then◌else◌, refl}
-use Rattle.std.proofs.Common.{ap, sym, ◌∙◌, subst, true≢false}
+use Rattle.std.proofs.Common.{ap, sym, ◌∙◌, true≢false}
 use lib.Pointwise.{pointwise}
 use Rattle.lensmodel.specs.Files.Catalogue.{find_glass, without_name, book}
 use Rattle.lensmodel.specs.Setup.Media.{same_name, upper}
 use Rattle.lensmodel.specs.declared.glass.Glass.{Glass}
-use Rattle.std.proofs.lemmas.Bool.{eqb-true, eq-eqb}
+use Rattle.records.specs.SameWords.{same-yes, same-of}
 use Rattle.agfread.specs.Walked.{is_none, with_glass}
-
-pub same-yes : (a b : List ℕ) → pointwise nat_eq a b ≡ true → a ≡ b
-same-yes [] [] h = refl
-same-yes [] (y ∷ ys) h = absurd (true≢false (sym h))
-same-yes (x ∷ xs) [] h = absurd (true≢false (sym h))
-same-yes (x ∷ xs) (y ∷ ys) h =
-    elim (nat_eq x y) as (λ b. nat_eq x y ≡ b → x ∷ xs ≡ y ∷ ys) [
-      | true ↦ (λ e. let t : pointwise nat_eq xs ys ≡ true = rw e at h in (λ i. eqb-true x y e i ∷ same-yes xs ys t i))
-      | false ↦ (λ e. let t : false ≡ true = rw e at h in absurd (true≢false (sym t)))
-    ] refl
-
-pub same-self : (a : List ℕ) → pointwise nat_eq a a ≡ true
-same-self [] = refl
-same-self (x ∷ xs) = rw (eq-eqb x x refl) (same-self xs)
-
-pub same-of : (a b : List ℕ) → a ≡ b → pointwise nat_eq a b ≡ true
-same-of a b e = subst (λ (x : List ℕ). pointwise nat_eq a x ≡ true) e (same-self a)
 
 pub same_name-back : (a b : List ℕ) → same_name a b ≡ true → same_name b a ≡ true
 same_name-back a b h = same-of (map upper b) (map upper a) (sym (same-yes (map upper a) (map upper b) h))

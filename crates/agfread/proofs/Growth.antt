@@ -1,30 +1,11 @@
 -- What one more line changes in the glasses of a catalogue.
-use Rattle.std.specs.Prelude.{◌≡◌, ◌⊎◌, suc, Bool, true, false, List, [], ◌∷◌, ◌++◌, Option, Some, None, if◌then◌else◌, refl}
+use Rattle.std.specs.Prelude.{◌≡◌, ◌⊎◌, Bool, true, false, List, [], ◌∷◌, ◌++◌, Option, Some, if◌then◌else◌, refl}
 use Rattle.std.proofs.Common.{ap, sym, ◌∙◌, inl, inr}
 use Rattle.lensmodel.specs.Files.Catalogue.{is_NM, is_CD, is_LD, block, glass_of, all_glasses, formula_number, is_used, coefficient_in, bound_in}
-use Rattle.lensmodel.specs.Files.Causes.{or_first}
-use Rattle.lensmodel.specs.Files.Records.{Words, last_where, count_where, word_at}
+use Rattle.lensmodel.specs.Files.Records.{Words, last_where, word_at}
 use Rattle.lensmodel.specs.declared.glass.Glass.{Glass}
+use Rattle.records.specs.LineLaws.{last_where-append}
 use Rattle.agfread.specs.Records.{with_coefficients, with_CD, with_bounds}
-
-pub last_where-append : (is : Words → Bool) (ls : List Words) (l : Words)
-    → last_where is (ls ++ l ∷ []) ≡ or_first (if is l then Some l else None) (last_where is ls)
-last_where-append is [] l = elim (is l) as (λ b. or_first None (if b then Some l else None) ≡ or_first (if b then Some l else None) None) [ true ↦ refl | false ↦ refl ]
-last_where-append is (x ∷ ls) l =
-    rw (last_where-append is ls l)
-    (elim (is l) as (λ b. or_first (or_first (if b then Some l else None) (last_where is ls)) (if is x then Some x else None)
-    ≡ or_first (if b then Some l else None) (or_first (last_where is ls) (if is x then Some x else None))) [ true ↦ refl | false ↦ refl ])
-
-pub count_where-append : (is : Words → Bool) (ls : List Words) (l : Words)
-    → count_where is (ls ++ l ∷ []) ≡ (if is l then suc (count_where is ls) else count_where is ls)
-count_where-append is [] l = refl
-count_where-append is (x ∷ ls) l =
-    elim (is x) as (λ b. (if b then suc (count_where is (ls ++ l ∷ [])) else count_where is (ls ++ l ∷ []))
-    ≡ (if is l then suc (if b then suc (count_where is ls) else count_where is ls) else (if b then suc (count_where is ls) else count_where is ls))) [
-      | true ↦ rw (count_where-append is ls l) (elim (is l) as (λ c. suc (if c then suc (count_where is ls) else count_where is ls)
-          ≡ (if c then suc (suc (count_where is ls)) else suc (count_where is ls))) [ true ↦ refl | false ↦ refl ])
-      | false ↦ count_where-append is ls l
-    ]
 
 -- an NM line begins a block without lines
 pub block-begins : (ls : List Words) (l : Words) → is_NM l ≡ true → block (ls ++ l ∷ []) ≡ block ls

@@ -1,4 +1,3 @@
-pub mod Cut
 pub mod Steps
 pub mod Lines
 pub mod Growth

@@ -1,44 +1,18 @@
 -- One more line: what it says of the catalogue, by what the reader did with it.
-use Rattle.std.proofs.Common.{◌≡◌, ◌≢◌, ℕ, ◌+◌, Bool, true, false, List, [], ◌∷◌, ◌++◌, refl, sym, ap, subst, ◌∙◌, arith}
-use Rattle.std.specs.Prelude.{Option, Some, None, Result, Ok, Err, OnOk, nat_eq, codes, if◌then◌else◌}
+use Rattle.std.proofs.Common.{◌≡◌, ℕ, ◌+◌, true, false, List, [], ◌∷◌, ◌++◌, refl, sym, ap, subst, ◌∙◌, arith}
+use Rattle.std.specs.Prelude.{Option, Some, None, nat_eq, codes, if◌then◌else◌}
 use lib.Pointwise.{pointwise}
 use Rattle.lensmodel.specs.Files.Catalogue.{is_NM, is_CD, is_LD, glass_of, is_used, offence, NM_offence, CD_offence, LD_offence, NM_fault, LD_fault}
 use Rattle.lensmodel.specs.Files.Records.{Words, last_where, count_where}
 use Rattle.lensmodel.specs.declared.glass.Glass.{Glass}
 use Rattle.agfread.specs.Records.{with_coefficients, with_bounds, used_CD_fault, with_CD}
-use Rattle.agfread.proofs.Growth.{last_where-append, count_where-append, all_glasses-begins, all_glasses-grows, on_last, on_last-append, Changes, CD-changes, LD-changes, others-change}
-use Rattle.agfread.proofs.Books.{same-yes, book-append}
+use Rattle.records.specs.LineLaws.{last_where-append, count_where-append}
+use Rattle.records.specs.SameWords.{same-yes}
+use Rattle.agfread.proofs.Growth.{all_glasses-begins, all_glasses-grows, on_last, on_last-append, Changes, CD-changes, LD-changes, others-change}
+use Rattle.agfread.proofs.Books.{book-append}
 use Rattle.agfread.specs.Walked.{Walked, OpenAt, closed_with, with_glass}
 use Rattle.agfread.specs.Readers.{IsAt}
-use Rattle.agfread.specs.Tags.{tag_of}
-use Rattle.agfread.specs.declared.record.Tag.{Tag}
-use Rattle.agfread.specs.declared.record.Tag.TheVariants.{Nm, Cd, Ld, Other}
 use Rattle.agfread.specs.declared.walk.Reader.{Reader}
-
--- ---- tags
-by-NM : (n c d : Bool) → (if n then Nm else if c then Cd else if d then Ld else Other) ≡ Nm → n ≡ true
-by-NM true c d h = refl
-by-NM false true d h = cc
-by-NM false false true h = cc
-by-NM false false false h = cc
-
-by-CD : (n c d : Bool) → (if n then Nm else if c then Cd else if d then Ld else Other) ≡ Cd → (n ≡ false) × (c ≡ true)
-by-CD true c d h = absurd (cc)
-by-CD false true d h = (refl, refl)
-by-CD false false true h = absurd (cc)
-by-CD false false false h = absurd (cc)
-
-by-LD : (n c d : Bool) → (if n then Nm else if c then Cd else if d then Ld else Other) ≡ Ld → (n ≡ false) × (c ≡ false) × (d ≡ true)
-by-LD true c d h = absurd (cc)
-by-LD false true d h = absurd (cc)
-by-LD false false true h = (refl, refl, refl)
-by-LD false false false h = absurd (cc)
-
-by-Other : (n c d : Bool) → (if n then Nm else if c then Cd else if d then Ld else Other) ≡ Other → (n ≡ false) × (c ≡ false) × (d ≡ false)
-by-Other true c d h = absurd (cc)
-by-Other false true d h = absurd (cc)
-by-Other false false true h = absurd (cc)
-by-Other false false false h = (refl, refl, refl)
 
 CD-not-LD : (l : Words) → is_CD l ≡ true → is_LD l ≡ false
 CD-not-LD [] h = refl
@@ -101,17 +75,16 @@ along : (before : List Words) (o p : Option Glass) (held next : List Glass) → 
 along before o p held next e f w = subst (λ (x : Option Glass). Walked before x next) (sym e) (subst (λ (x : List Glass). Walked before o x) (sym f) w)
 
 -- ---- the reader
-pub NM-step : (n : ℕ) (before : List Words) (l : Words) (r next : Reader) → tag_of l ≡ Nm → IsAt before r → NM_fault n r.seen l ≡ None
+pub NM-step : (n : ℕ) (before : List Words) (l : Words) (r next : Reader) → is_NM l ≡ true → IsAt before r → NM_fault n r.seen l ≡ None
     → next.current ≡ Some (glass_of l []) → next.book ≡ closed_with r.current r.book → next.seen ≡ r.seen + 1
     → (offence n before l ≡ None) × IsAt (before ++ l ∷ []) next
-NM-step n before l r next t at f o b s =
-    let h = by-NM (is_NM l) (is_CD l) (is_LD l) t in (
-      NM-offence n before l r.seen h at.seen ∙ f,
-      record {
-        seen = s ∙ rw (count_where-append is_NM before l, h) (omega (arith, at.seen));
-        walked = along (before ++ l ∷ []) (Some (glass_of l [])) next.current next.book next.book o refl (NM-walked before l r.current r.book next.book h at.walked b);
-      },
-    )
+NM-step n before l r next h at f o b s = (
+  NM-offence n before l r.seen h at.seen ∙ f,
+  record {
+    seen = s ∙ rw (count_where-append is_NM before l, h) (omega (arith, at.seen));
+    walked = along (before ++ l ∷ []) (Some (glass_of l [])) next.current next.book next.book o refl (NM-walked before l r.current r.book next.book h at.walked b);
+  },
+)
 
 not-NM-count : (before : List Words) (l : Words) (r next : Reader) → is_NM l ≡ false → IsAt before r → next.seen ≡ r.seen
     → next.seen ≡ count_where is_NM (before ++ l ∷ [])
@@ -136,48 +109,29 @@ changed-step before l r g next change ch keeps is at e = record {
   walked = subst (λ (x : Glass). OpenAt (before ++ l ∷ []) x r.book) (sym e) (grown before l change (Some g) r.book ch keeps (open-walked before r g is at));
 }
 
-pub CD-step : (n : ℕ) (before : List Words) (l : Words) (r : Reader) (g next : Glass) → tag_of l ≡ Cd → r.current ≡ Some g → IsAt before r
+pub CD-step : (n : ℕ) (before : List Words) (l : Words) (r : Reader) (g next : Glass) → is_NM l ≡ false → is_CD l ≡ true → r.current ≡ Some g → IsAt before r
     → used_CD_fault n g l ≡ None → next ≡ with_CD l g
     → (offence n before l ≡ None) × IsAt (before ++ l ∷ []) (record { book = r.book; current = Some next; seen = r.seen })
-CD-step n before l r g next t is at f e =
-    let h = by-CD (is_NM l) (is_CD l) (is_LD l) t in (
-      CD-offence n before l g r.book h.0 h.1 (open-walked before r g is at) ∙ f,
-      changed-step before l r g next (with_CD l) (CD-changes l h.0 h.1 (CD-not-LD l h.1)) (keeps-formula l) is at e,
-    )
+CD-step n before l r g next h c is at f e = (
+  CD-offence n before l g r.book h c (open-walked before r g is at) ∙ f,
+  changed-step before l r g next (with_CD l) (CD-changes l h c (CD-not-LD l c)) (keeps-formula l) is at e,
+)
 
-pub LD-step : (n : ℕ) (before : List Words) (l : Words) (r : Reader) (g next : Glass) → tag_of l ≡ Ld → r.current ≡ Some g → IsAt before r
+pub LD-step : (n : ℕ) (before : List Words) (l : Words) (r : Reader) (g next : Glass) → is_NM l ≡ false → is_CD l ≡ false → is_LD l ≡ true → r.current ≡ Some g → IsAt before r
     → LD_fault n l ≡ None → next ≡ with_bounds l g
     → (offence n before l ≡ None) × IsAt (before ++ l ∷ []) (record { book = r.book; current = Some next; seen = r.seen })
-LD-step n before l r g next t is at f e =
-    let h = by-LD (is_NM l) (is_CD l) (is_LD l) t in (
-      LD-offence n before l g r.book h.0 h.1 h.2 (open-walked before r g is at) ∙ f,
-      changed-step before l r g next (with_bounds l) (LD-changes l h.0 h.1 h.2) (λ x. refl) is at e,
-    )
+LD-step n before l r g next h c d is at f e = (
+  LD-offence n before l g r.book h c d (open-walked before r g is at) ∙ f,
+  changed-step before l r g next (with_bounds l) (LD-changes l h c d) (λ x. refl) is at e,
+)
 
--- the tag that no row of the table has
-pub other_tag : (t : Tag) → t ≢ Nm → t ≢ Cd → t ≢ Ld → t ≡ Other
-other_tag Nm n c d = absurd (n refl)
-other_tag Cd n c d = absurd (c refl)
-other_tag Ld n c d = absurd (d refl)
-other_tag Other n c d = refl
-
-pub other-step : (n : ℕ) (before : List Words) (l : Words) (r : Reader) → tag_of l ≡ Other → IsAt before r
+pub other-step : (n : ℕ) (before : List Words) (l : Words) (r : Reader) → is_NM l ≡ false → is_CD l ≡ false → is_LD l ≡ false → IsAt before r
     → (offence n before l ≡ None) × IsAt (before ++ l ∷ []) r
-other-step n before l r t at =
-    let h = by-Other (is_NM l) (is_CD l) (is_LD l) t in (
-      rw (h.0, h.1, h.2) refl,
-      record {
-        seen = not-NM-count before l r r h.0 at refl;
-        walked = along (before ++ l ∷ []) (changed (λ g. g) r.current) r.current r.book r.book (unchanged r.current) refl
-            (grown before l (λ g. g) r.current r.book (others-change l h.0 h.1 h.2) (λ g. refl) at.walked);
-      },
-    )
-
--- ---- answers that are Ok
-pub on_ok4 : {T E : Type 0} {A B C D X : Type 0} (r : Result T E) → (A → B → C → D → X) → OnOk r A → OnOk r B → OnOk r C → OnOk r D → OnOk r X
-on_ok4 (Ok u) f a b c d = f a b c d
-on_ok4 (Err e) f a b c d = tt
-
-pub on_ok2 : {T E : Type 0} {A B X : Type 0} (r : Result T E) → (A → B → X) → OnOk r A → OnOk r B → OnOk r X
-on_ok2 (Ok u) f a b = f a b
-on_ok2 (Err e) f a b = tt
+other-step n before l r h c d at = (
+  rw (h, c, d) refl,
+  record {
+    seen = not-NM-count before l r r h at refl;
+    walked = along (before ++ l ∷ []) (changed (λ g. g) r.current) r.current r.book r.book (unchanged r.current) refl
+        (grown before l (λ g. g) r.current r.book (others-change l h c d) (λ g. refl) at.walked);
+  },
+)

@@ -1,4 +1,3 @@
 pub mod Records
-pub mod Tags
 pub mod Walked
 pub mod Readers

@@ -1,18 +1,13 @@
 -- What one record of a catalogue says, word by word. A line is its list of words.
-use Rattle.std.specs.Prelude.{ℕ, zero, suc, Bool, true, false, [], ◌∷◌, Option, Some, None, if◌then◌else◌}
+use Rattle.std.specs.Prelude.{ℕ, suc, true, Option, Some, None, if◌then◌else◌}
 use Rattle.fixdec.specs.Reading.{decimal_of}
 use Rattle.lensmodel.specs.Files.Causes.{bad_unless}
 use Rattle.lensmodel.specs.Files.Catalogue.{CD_fault, is_used, coefficient_in, bound_in}
 use Rattle.lensmodel.specs.Files.Records.{Words, word_at}
+use Rattle.records.specs.Words.{has_word}
 use Rattle.lensmodel.specs.declared.fault.AgfFault.{AgfFault}
 use Rattle.lensmodel.specs.declared.fault.AgfFault.TheVariants.{BadNumber}
 use Rattle.lensmodel.specs.declared.glass.Glass.{Glass}
-
--- whether a line has a word of a number, counted from 0
-abbrev pub has_word : ℕ → Words → Bool
-has_word k [] = false
-has_word zero (w ∷ more) = true
-has_word (suc k) (w ∷ more) = has_word k more
 
 -- the fault of a word, counted from 0, that is there and isn't a decimal
 abbrev pub word_fault : ℕ → ℕ → Words → Option AgfFault

@@ -1,30 +1,29 @@
 //! The glass of a record.
 
 ghost use Rattle.std.specs.Prelude.{◌≡◌, ◌≤◌, ◌<◌, [], Some, None, length, IfOk, IfErr, OnOk};
+ghost use Rattle.fixdec.specs.Reading.{decimal_of};
 ghost use Rattle.lensmodel.specs.Files.Catalogue.{glass_of, NM_fault, CD_fault, LD_fault};
-ghost use Rattle.lensmodel.specs.Files.TextLines.{words};
+ghost use Rattle.lensmodel.specs.Files.Records.{word_at, decimal_or_0};
 ghost use Rattle.lensmodel.specs.Setup.Values.{zero_decimal};
-ghost use Rattle.agfread.specs.Records.{used_CD_fault, with_CD, with_coefficients, with_bounds};
+ghost use Rattle.agfread.specs.Records.{word_fault, used_CD_fault, with_CD, with_coefficients, with_bounds};
 
-use crate::number::{formula, number};
-use crate::record::Record;
 use arrayvec::ArrayVec;
 use fixdec::dec::Dec;
 use lensmodel::fault::AgfFault;
 use lensmodel::glass::Glass;
 use lensmodel::name::Name;
+use records::line::Line;
+use records::number::BadNumber;
 
 /// The glass that an NM line begins, the one after `seen` others.
-pub fn begun(line: &Record<'_>, at: u32, seen: u32) -> Result<Glass, AgfFault>
-    requires { 2 < length (words line.now.units.now) }
-    ensures glass { IfOk result (λ g. g ≡ glass_of (words line.now.units.now) []) }
-    ensures sound { IfOk result (λ g. NM_fault at seen (words line.now.units.now) ≡ None) }
-    ensures fault { IfErr result (λ f. NM_fault at seen (words line.now.units.now) ≡ Some f) }
+pub fn begun(line: &Line<'_>, at: u32, seen: u32) -> Result<Glass, AgfFault>
+    requires { 2 < length line.now }
+    ensures glass { IfOk result (λ g. g ≡ glass_of line.now []) }
+    ensures sound { IfOk result (λ g. NM_fault at seen line.now ≡ None) }
+    ensures fault { IfErr result (λ f. NM_fault at seen line.now ≡ Some f) }
 {
     let name = line.known_word(1);
-    let Some(formula) = formula(line.known_word(2)) else {
-        return Err(AgfFault::BadNumber { line: at, word: 3 });
-    };
+    let formula = line.whole(2, 99).map_err(|bad| in_line(at, bad))?;
     if name.len() > 40 {
         return Err(AgfFault::LongName { line: at });
     }
@@ -32,6 +31,26 @@ pub fn begun(line: &Record<'_>, at: u32, seen: u32) -> Result<Glass, AgfFault>
         return Err(AgfFault::TooManyGlasses { line: at });
     }
     Ok(bare(name, formula))
+}
+
+/// The fault of a bad number in the line of a number.
+fn in_line(at: u32, bad: BadNumber) -> AgfFault
+    ensures { result ≡ AgfFault.BadNumber at bad.word }
+{
+    AgfFault::BadNumber {
+        line: at,
+        word: bad.word,
+    }
+}
+
+/// The coefficient at the word `k`, from 0, which is 0 where the line has no such word.
+fn coefficient(line: &Line<'_>, at: u32, k: usize) -> Result<Dec, AgfFault>
+    requires { k < 64 }
+    ensures value { IfOk result (λ d. d ≡ decimal_or_0 (decimal_of (word_at k line.now))) }
+    ensures sound { OnOk result (word_fault at k line.now ≡ None) }
+    ensures fault { IfErr result (λ f. word_fault at k line.now ≡ Some f) }
+{
+    line.number_or_0(k).map_err(|bad| in_line(at, bad))
 }
 
 /// A glass without coefficients and bounds.
@@ -68,17 +87,17 @@ fn bare(name: &[u16], formula: u32) -> Glass
 }
 
 /// Puts the coefficients of a CD line into a glass.
-fn set_coefficients(glass: &mut Glass, line: &Record<'_>, at: u32) -> Result<(), AgfFault>
-    ensures glass { OnOk result (glass.new ≡ with_coefficients (words line.now.units.now) glass.old) }
-    ensures sound { OnOk result (CD_fault at (words line.now.units.now) ≡ None) }
-    ensures fault { IfErr result (λ f. CD_fault at (words line.now.units.now) ≡ Some f) }
+fn set_coefficients(glass: &mut Glass, line: &Line<'_>, at: u32) -> Result<(), AgfFault>
+    ensures glass { OnOk result (glass.new ≡ with_coefficients line.now glass.old) }
+    ensures sound { OnOk result (CD_fault at line.now ≡ None) }
+    ensures fault { IfErr result (λ f. CD_fault at line.now ≡ Some f) }
 {
-    let c0 = number(line, at, 1)?;
-    let c1 = number(line, at, 2)?;
-    let c2 = number(line, at, 3)?;
-    let c3 = number(line, at, 4)?;
-    let c4 = number(line, at, 5)?;
-    let c5 = number(line, at, 6)?;
+    let c0 = coefficient(line, at, 1)?;
+    let c1 = coefficient(line, at, 2)?;
+    let c2 = coefficient(line, at, 3)?;
+    let c3 = coefficient(line, at, 4)?;
+    let c4 = coefficient(line, at, 5)?;
+    let c5 = coefficient(line, at, 6)?;
     glass.c0 = c0;
     glass.c1 = c1;
     glass.c2 = c2;
@@ -89,10 +108,10 @@ fn set_coefficients(glass: &mut Glass, line: &Record<'_>, at: u32) -> Result<(),
 }
 
 /// Puts the coefficients of a CD line into a glass, where its formula uses them.
-pub fn set_used_coefficients(glass: &mut Glass, line: &Record<'_>, at: u32) -> Result<(), AgfFault>
-    ensures glass { OnOk result (glass.new ≡ with_CD (words line.now.units.now) glass.old) }
-    ensures sound { OnOk result (used_CD_fault at glass.old (words line.now.units.now) ≡ None) }
-    ensures fault { IfErr result (λ f. used_CD_fault at glass.old (words line.now.units.now) ≡ Some f) }
+pub fn set_used_coefficients(glass: &mut Glass, line: &Line<'_>, at: u32) -> Result<(), AgfFault>
+    ensures glass { OnOk result (glass.new ≡ with_CD line.now glass.old) }
+    ensures sound { OnOk result (used_CD_fault at glass.old line.now ≡ None) }
+    ensures fault { IfErr result (λ f. used_CD_fault at glass.old line.now ≡ Some f) }
 {
     match glass.formula {
         1 | 2 => set_coefficients(glass, line, at),
@@ -101,14 +120,14 @@ pub fn set_used_coefficients(glass: &mut Glass, line: &Record<'_>, at: u32) -> R
 }
 
 /// Puts the bounds of an LD line into a glass.
-pub fn set_bounds(glass: &mut Glass, line: &Record<'_>, at: u32) -> Result<(), AgfFault>
-    requires { 2 < length (words line.now.units.now) }
-    ensures glass { OnOk result (glass.new ≡ with_bounds (words line.now.units.now) glass.old) }
-    ensures sound { OnOk result (LD_fault at (words line.now.units.now) ≡ None) }
-    ensures fault { IfErr result (λ f. LD_fault at (words line.now.units.now) ≡ Some f) }
+pub fn set_bounds(glass: &mut Glass, line: &Line<'_>, at: u32) -> Result<(), AgfFault>
+    requires { 2 < length line.now }
+    ensures glass { OnOk result (glass.new ≡ with_bounds line.now glass.old) }
+    ensures sound { OnOk result (LD_fault at line.now ≡ None) }
+    ensures fault { IfErr result (λ f. LD_fault at line.now ≡ Some f) }
 {
-    let low = number(line, at, 1)?;
-    let high = number(line, at, 2)?;
+    let low = line.number(1).map_err(|bad| in_line(at, bad))?;
+    let high = line.number(2).map_err(|bad| in_line(at, bad))?;
     glass.low = Some(low);
     glass.high = Some(high);
     Ok(())

@@ -2,8 +2,5 @@
 #![tactic(auto)]
 
 mod glass;
-mod number;
 pub mod read;
-mod record;
-mod table;
 mod walk;

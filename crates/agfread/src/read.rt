@@ -4,12 +4,11 @@ ghost use Rattle.std.specs.Prelude.{◌≡◌, ◌≢◌, ◌<◌, length, Ok, E
 ghost use Rattle.lensmodel.specs.Files.Catalogue.{catalogue, of_lines};
 ghost use Rattle.lensmodel.specs.Files.Records.{each_words};
 
-use crate::record::Record;
 use crate::walk::Reader;
-use arrayvec::ArrayVec;
 use glassbook::book::GlassBook;
 use lensmodel::fault::{AgfFault, TextFault};
 use lenstext::text::{Text, decode};
+use records::walk::read_lines;
 use std::alloc::Global;
 
 /// The book of the glasses of a catalogue in AGF form.
@@ -26,7 +25,7 @@ pub fn read_agf(alloc: Global, bytes: &[u8]) -> Result<GlassBook, AgfFault>
     ensures fault { IfErr result (λ f. f ≢ AgfFault.Memory → catalogue bytes.now ≡ Err f) }
 {
     match decode(alloc, bytes) {
-        Ok(text) => read_lines(alloc, &text),
+        Ok(text) => read_glasses(alloc, &text),
         Err(fault) => Err(text_fault(fault)),
     }
 }
@@ -45,20 +44,12 @@ fn text_fault(fault: TextFault) -> AgfFault
 }
 
 /// The book of the glasses of lines, or the fault of the first line that has one.
-fn read_lines(alloc: Global, text: &Text) -> Result<GlassBook, AgfFault>
+fn read_glasses(alloc: Global, text: &Text) -> Result<GlassBook, AgfFault>
     ensures book { IfOk result (λ b. of_lines (each_words text.now) ≡ Ok b) }
     ensures fault { IfErr result (λ f. f ≢ AgfFault.Memory → of_lines (each_words text.now) ≡ Err f) }
 {
     let mut reader = Reader::new(alloc);
-    let mut ranges = ArrayVec::new();
-    for i in 0..text.count() {
-        text.words(i, &mut ranges);
-        let line = Record {
-            units: text.line(i),
-            ranges: &ranges,
-        };
-        reader.take(i as u32 + 1, &line)?;
-    }
+    read_lines(text, &mut reader)?;
     reader.finish()
 }
 

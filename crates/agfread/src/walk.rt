@@ -3,16 +3,16 @@
 ghost use Rattle.std.specs.Prelude.{◌≡◌, ◌≢◌, ◌++◌, ◌∷◌, ◌+◌, ◌<◌, length, [], List, None, Some, IfOk, IfErr, OnOk};
 ghost use Rattle.lensmodel.specs.Files.Catalogue.{offence, glass_of, NM_fault};
 ghost use Rattle.lensmodel.specs.Files.Records.{Words};
-ghost use Rattle.lensmodel.specs.Files.TextLines.{words};
 ghost use Rattle.agfread.specs.Walked.{closed_with};
 ghost use Rattle.agfread.specs.Readers.{IsAt};
 
 use crate::glass::{begun, set_bounds, set_used_coefficients};
-use crate::record::{Record, Tag};
-use crate::table::record_table;
 use glassbook::book::GlassBook;
 use lensmodel::fault::AgfFault;
 use lensmodel::glass::Glass;
+use records::line::Line;
+use records::record_table;
+use records::walk::LineReader;
 use std::alloc::Global;
 
 /// How far a catalogue was read.
@@ -38,30 +38,14 @@ impl Reader {
         }
     }
 
-    /// Takes the line of a number.
-    pub fn take(&mut self, at: u32, line: &Record<'_>) -> Result<(), AgfFault>
-        ensures passed { OnOk result ((before : List Words) → IsAt before self.old
-            → (offence at before (words line.now.units.now) ≡ None) × IsAt (before ++ words line.now.units.now ∷ []) self.new) }
-        ensures fault { IfErr result (λ f. f ≢ AgfFault.Memory → (before : List Words) → IsAt before self.old
-            → offence at before (words line.now.units.now) ≡ Some f) }
-    {
-        record_table!(line, AgfFault::MissingWord { line: at } => {
-            Tag::Nm, 2 words => self.begin(at, line),
-            Tag::Cd, let Some(glass) = &mut self.current, else AgfFault::OrphanRecord { line: at },
-                0 words => set_used_coefficients(glass, line, at),
-            Tag::Ld, let Some(glass) = &mut self.current, else AgfFault::OrphanRecord { line: at },
-                2 words => set_bounds(glass, line, at),
-        } else Ok(()))
-    }
-
     /// Closes the open glass, and opens that of an NM line.
-    fn begin(&mut self, at: u32, line: &Record<'_>) -> Result<(), AgfFault>
-        requires { 2 < length (words line.now.units.now) }
-        ensures sound { OnOk result (NM_fault at self.old.seen (words line.now.units.now) ≡ None) }
-        ensures opened { OnOk result (self.new.current ≡ Some (glass_of (words line.now.units.now) [])) }
+    fn begin(&mut self, at: u32, line: &Line<'_>) -> Result<(), AgfFault>
+        requires { 2 < length line.now }
+        ensures sound { OnOk result (NM_fault at self.old.seen line.now ≡ None) }
+        ensures opened { OnOk result (self.new.current ≡ Some (glass_of line.now [])) }
         ensures book { OnOk result (self.new.book ≡ closed_with self.old.current self.old.book) }
         ensures seen { OnOk result (self.new.seen ≡ self.old.seen + 1) }
-        ensures fault { IfErr result (λ f. f ≢ AgfFault.Memory → NM_fault at self.old.seen (words line.now.units.now) ≡ Some f) }
+        ensures fault { IfErr result (λ f. f ≢ AgfFault.Memory → NM_fault at self.old.seen line.now ≡ Some f) }
     {
         let glass = begun(line, at, self.seen)?;
         self.close()?;
@@ -93,5 +77,34 @@ impl Reader {
             book.add(glass).map_err(|_| AgfFault::Memory)?;
         }
         Ok(book)
+    }
+}
+
+impl LineReader for Reader {
+    ghost use Rattle.std.specs.Prelude.{◌≢◌, false};
+    ghost use Rattle.lensmodel.specs.Files.Catalogue.{offence};
+    ghost use Rattle.lensmodel.specs.declared.fault.AgfFault.TheVariants.{Memory};
+    ghost use Rattle.agfread.specs.Readers.{IsAt};
+
+    type Fault = AgfFault;
+
+    const REMARKS: bool = false;
+
+    ghost REMARKS = { false };
+
+    ghost offence = { λ _. offence };
+
+    ghost IsOfLines = { λ f. f ≢ Memory };
+
+    ghost IsAt = { IsAt };
+
+    fn take(&mut self, at: u32, line: &Line<'_>) -> Result<(), AgfFault> {
+        record_table!(line, AgfFault::MissingWord { line: at } => {
+            b"NM", 2 words => self.begin(at, line),
+            b"CD", let Some(glass) = &mut self.current, else AgfFault::OrphanRecord { line: at },
+                0 words => set_used_coefficients(glass, line, at),
+            b"LD", let Some(glass) = &mut self.current, else AgfFault::OrphanRecord { line: at },
+                2 words => set_bounds(glass, line, at),
+        } else Ok(()))
     }
 }

@@ -1,16 +1,17 @@
 use Rattle.std.proofs.Common.{sym, ap, ◌∙◌}
 use Rattle.std.specs.Prelude.{Err, ◌≢◌}
 use Rattle.lensmodel.specs.declared.fault.TextFault.TheVariants.{Memory}
-use Rattle.agfread.proofs.Lines.{if_ok, if_err, catalogue-lines, catalogue-fault}
+use Rattle.std.proofs.lemmas.Result.{IfOk-weaker, IfErr-weaker}
+use Rattle.agfread.proofs.Lines.{catalogue-lines, catalogue-fault}
 use Rattle.agfread.proofs.read.read_agf.Goals as goal
 
 pub returns-in-Ok-clause-book : goal.returns-in-Ok-clause-book
 returns-in-Ok-clause-book c =
-    if_ok c.read_lines.result _ _ (λ b p. catalogue-lines c.args.bytes.now c.in-Ok.text c.in-Ok.ensures.lines ∙ p) c.read_lines.ensures.book
+    IfOk-weaker c.read_glasses.result _ _ (λ b p. catalogue-lines c.args.bytes.now c.in-Ok.text c.in-Ok.ensures.lines ∙ p) c.read_glasses.ensures.book
 
 pub returns-in-Ok-clause-fault : goal.returns-in-Ok-clause-fault
 returns-in-Ok-clause-fault c =
-    if_err c.read_lines.result _ _ (λ f p n. catalogue-lines c.args.bytes.now c.in-Ok.text c.in-Ok.ensures.lines ∙ p n) c.read_lines.ensures.fault
+    IfErr-weaker c.read_glasses.result _ _ (λ f p n. catalogue-lines c.args.bytes.now c.in-Ok.text c.in-Ok.ensures.lines ∙ p n) c.read_glasses.ensures.fault
 
 pub returns-in-Err : goal.returns-in-Err
 returns-in-Err c =
