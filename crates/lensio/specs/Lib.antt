@@ -1,3 +1,4 @@
+pub mod Choice
 pub mod Count
 pub mod Held
 pub mod Memory

@@ -1,10 +1,10 @@
--- What a sink has taken, where it tells it.
+-- What a sink has taken, where it tells it; and so what a shelf was asked for.
 use Rattle.std.specs.Prelude.{◌≡◌, ℕ, List, ◌++◌, take, Option, IfSome, IsSomeAnd}
 
--- where it is told what was taken, it was told before, and these bytes came to it
-abbrev pub Takes : Option (List ℕ) → Option (List ℕ) → List ℕ → Type 0
-Takes old new bytes = IfSome new (λ now. IsSomeAnd old (λ before. now ≡ before ++ bytes))
+-- where it is told what was taken, it was told before, and these came to it
+abbrev pub Takes : {A : Type 0} → Option (List A) → Option (List A) → List A → Type 0
+Takes old new items = IfSome new (λ now. IsSomeAnd old (λ before. now ≡ before ++ items))
 
--- the same of some front of the bytes
-abbrev pub TakesFront : Option (List ℕ) → Option (List ℕ) → List ℕ → Type 0
-TakesFront old new bytes = (n : ℕ) × Takes old new (take n bytes)
+-- the same of some front of them
+abbrev pub TakesFront : {A : Type 0} → Option (List A) → Option (List A) → List A → Type 0
+TakesFront old new items = (n : ℕ) × Takes old new (take n items)

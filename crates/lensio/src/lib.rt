@@ -2,7 +2,9 @@
 //! memory and over the system, and whole files and texts moved through them.
 #![tactic(auto)]
 
+pub mod disk;
 pub mod memory;
+pub mod output;
 pub mod shelf;
 pub mod sink;
 pub mod standard;

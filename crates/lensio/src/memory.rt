@@ -244,7 +244,7 @@ impl Shelf for MemShelf {
     }
 }
 
-/// There was no memory for the room of a sink.
+/// Memory was wanting for the room of a sink. No clause says when it comes.
 #[derive(Clone, Copy, Debug, PartialEq, Eq)]
 pub struct SinkFull;
 

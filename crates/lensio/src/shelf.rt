@@ -1,10 +1,11 @@
 //! A source of files by name.
 
-ghost use Rattle.std.specs.Prelude.{◌≡◌, ◌<◌, ◌≤◌, ℕ, List, [], Option, Some, IfOk, OnErr, IsTrue, length, take};
+ghost use Rattle.std.specs.Prelude.{◌≡◌, ◌<◌, ◌≤◌, ℕ, List, [], ◌∷◌, Option, None, Some, IfOk, OnOk, OnErr, IsTrue, length, take};
 ghost use Rattle.std.specs.Bool.{IsFalse};
 ghost use Rattle.std.specs.Io.KnownBytes.{Consumes, Keeps, IsAtEnd};
 ghost use Rattle.lensio.specs.Count.{Rose, plus};
 ghost use Rattle.lensio.specs.Held.{Files, Lacks, Opens};
+ghost use Rattle.lensio.specs.Taken.{Takes};
 
 /// A call that failed. Its source or sink has counted it as a fault.
 #[derive(Clone, Copy, Debug, PartialEq, Eq)]
@@ -12,14 +13,17 @@ pub struct Failed;
 
 /// A source of files. One file at a time is chosen by its name and read in pieces.
 ///
-/// A shelf need not tell what it holds, nor what is left of the chosen file. It counts its faults,
-/// the names that it didn't find and the bytes that it gave.
+/// A shelf need not tell what it holds, what is left of the chosen file, nor what it was asked for. It
+/// counts its faults, the names that it didn't find and the bytes that it gave.
 pub trait Shelf {
     /// What is held by each name, where it is told.
     ghost held: { Self → Option Files };
 
     /// What is left to read of the chosen file, where it is told. Nothing is left where none is chosen.
     ghost left: { Self → Option (List ℕ) };
+
+    /// The names that it was asked for so far, where they are told.
+    ghost asked: { Self → Option (List (List ℕ)) } = { λ _. None };
 
     /// How often a call failed.
     ghost faults: { Self → ℕ };
@@ -32,9 +36,14 @@ pub trait Shelf {
 
     /// Chooses the file of a name in place of the one chosen before, and answers whether it is held.
     fn choose(&mut self, name: &[u8]) -> Result<bool, Failed>
-        // Each answer has its cause.
+        ensures asks { Takes (asked self.old) (asked self.new) (name.now ∷ []) }
+
+        // Each answer has its cause, and nothing else is counted.
         ensures failed { OnErr result (Rose (faults self.old) (faults self.new)) }
         ensures absent { IfOk result (λ found. IsFalse found → Rose (absences self.old) (absences self.new)) }
+        ensures calm { OnOk result (faults self.new ≡ faults self.old) }
+        ensures found { IfOk result (λ found. IsTrue found → absences self.new ≡ absences self.old) }
+        ensures not_absent { OnErr result (absences self.new ≡ absences self.old) }
 
         // Where it is told what is held, false means that the name isn't held, and true that it is:
         // then all its bytes are left, and it is told that they are.
@@ -54,7 +63,10 @@ pub trait Shelf {
     /// or where no file is chosen.
     fn read(&mut self, to: &mut [u8]) -> Result<usize, Failed>
         requires { 0 < length to.old }
+        ensures same_asked { asked self.new ≡ asked self.old }
+
         ensures failed { OnErr result (Rose (faults self.old) (faults self.new)) }
+        ensures calm { OnOk result (faults self.new ≡ faults self.old) }
 
         // It takes from what is left just what it gives, and what was told stays told.
         ensures bound { IfOk result (λ count. count ≤ length to.old) }
@@ -68,5 +80,5 @@ pub trait Shelf {
 
         ensures same_held { held self.new ≡ held self.old }
         ensures faults_rise { faults self.old ≤ faults self.new }
-        ensures absences_rise { absences self.old ≤ absences self.new };
+        ensures same_absences { absences self.new ≡ absences self.old };
 }

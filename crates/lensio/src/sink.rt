@@ -23,8 +23,9 @@ pub trait Sink {
         ensures front { IfOk result (λ count. Takes (taken self.old) (taken self.new) (take count piece.now)) }
         ensures some_front { OnErr result (TakesFront (taken self.old) (taken self.new) piece.now) }
 
-        // Each answer that stops has its cause.
+        // Each answer that stops has its cause, and nothing else is counted.
         ensures failed { OnErr result (Rose (faults self.old) (faults self.new)) }
         ensures idle { IfOk result (λ count. count ≡ 0 → Rose (faults self.old) (faults self.new)) }
+        ensures calm { IfOk result (λ count. 0 < count → faults self.new ≡ faults self.old) }
         ensures faults_rise { faults self.old ≤ faults self.new };
 }

@@ -1,17 +1,14 @@
 //! Tables of shelves and sinks.
 
+mod outside;
+
 use crate::memory::{CalmShelf, CalmSink, MemShelf, MemSink};
 use crate::shelf::{Failed, Shelf};
 use crate::sink::Sink;
-use crate::standard::{StdShelf, StdSink};
 use crate::transfer::{FILE_LIMIT, SlurpFault, put, slurp};
 use std::alloc::{AllocError, Global};
-use std::fmt::Display;
-use std::fs::File;
-use std::io::{Print, Write};
 use std::process::Abort;
 use std::test::Fail;
-use std::{env, fs, io};
 
 const TEXT: &[u8] = b"ray 1 passes scale 6";
 
@@ -196,74 +193,5 @@ fn a_call_that_fails_and_idles_fails(rt: HostRuntime) -> Result<(), Fail> {
     assert_eq!(rt; sink.write(TEXT), Err(Failed));
     assert_eq!(rt; sink.write(TEXT), Ok(7));
     assert_eq!(rt; sink.bytes(), Some(b"ray 1 p".as_slice()));
-    Ok(())
-}
-
-#[test]
-fn files_of_the_system(rt: HostRuntime) -> Result<(), Fail> {
-    let alloc = rt.alloc();
-    let folder = env::temp_dir(&rt)?;
-    let file = folder.join(alloc, "lensio-file")?;
-    fs::write(&rt, file.as_path(), TEXT)?;
-    let mut shelf = StdShelf::new(&rt);
-    for (name, held) in [
-        (file.as_str().as_bytes(), Ok(TEXT)),
-        (folder.as_str().as_bytes(), Err(SlurpFault::Fault)),
-        (b"lensio-none", Err(SlurpFault::Absent)),
-        (b"", Err(SlurpFault::Absent)),
-        (b"\xFF\xFE", Err(SlurpFault::Absent)),
-        (b"a\0b", Err(SlurpFault::Fault)),
-        (file.as_str().as_bytes(), Ok(TEXT)),
-    ] {
-        match (slurp(alloc, &mut shelf, name), held) {
-            (Ok(bytes), Ok(held)) => assert_eq!(rt; bytes.as_slice(), held),
-            (Err(found), Err(fault)) => assert_eq!(rt; found, fault, "the name {name:?}"),
-            _ => panic!(rt; "the name {name:?}"),
-        }
-    }
-    fs::remove_file(&rt, file.as_path())?;
-    Ok(())
-}
-
-// Prints to a file.
-#[derive(Drop)]
-struct Device(File);
-
-impl Print for Device {
-    fn print<D: Display + Drop>(&self, value: D) -> io::Result<()> {
-        write!(&mut &self.0, "{value}")
-    }
-
-    fn println<D: Display + Drop>(&self, value: D) -> io::Result<()> {
-        writeln!(&mut &self.0, "{value}")
-    }
-
-    fn write_all(&self, bytes: &[u8]) -> io::Result<()> {
-        (&self.0).write_all(bytes)
-    }
-
-    fn write_some(&self, bytes: &[u8]) -> io::Result<usize> {
-        (&self.0).write(bytes)
-    }
-}
-
-#[test]
-fn output_of_the_system(rt: HostRuntime) -> Result<(), Fail> {
-    let file = env::temp_dir(&rt)?.join(rt.alloc(), "lensio-output")?;
-    let device = Device(File::create(&rt, file.as_path())?);
-    assert_eq!(rt; put(&mut StdSink::new(&device), TEXT), Ok(()));
-    assert_eq!(rt; fs::read(&rt, file.as_path())?.as_slice(), TEXT);
-    fs::remove_file(&rt, file.as_path())?;
-    assert_eq!(rt;
-        put(&mut StdSink::new(&rt), b"to the standard output\n"),
-        Ok(())
-    );
-    Ok(())
-}
-
-#[test]
-fn a_full_device_is_a_fault(rt: HostRuntime) -> Result<(), Fail> {
-    let device = Device(File::create(&rt, "/dev/full")?);
-    assert_eq!(rt; put(&mut StdSink::new(&device), TEXT), Err(Failed));
     Ok(())
 }

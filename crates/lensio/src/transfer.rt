@@ -1,6 +1,6 @@
 //! Whole files in, and whole texts out.
 
-ghost use Rattle.std.specs.Prelude.{◌≡◌, ◌<◌, ◌≤◌, ◌+◌, ℕ, length, IfSome, IfOk, OnOk, OnErr, IsErrOf, vec_len};
+ghost use Rattle.std.specs.Prelude.{◌≡◌, ◌<◌, ◌≤◌, ◌+◌, ℕ, [], ◌∷◌, length, IfSome, IfOk, OnOk, OnErr, IsErrOf, vec_len};
 ghost use Rattle.std.specs.Io.KnownBytes.{Consumes, IsAtEnd};
 ghost use Rattle.lensio.specs.Count.{Rose, plus};
 ghost use Rattle.lensio.specs.Held.{Holds, HoldsMore, Lacks};
@@ -26,7 +26,7 @@ pub enum SlurpFault {
     Fault,
     /// The file has more than 16,777,216 bytes.
     TooLong,
-    /// There was no memory for its bytes.
+    /// Memory was wanting for its bytes. No clause says when it comes.
     Memory,
 }
 
@@ -49,8 +49,9 @@ impl From<AllocError> for SlurpFault {
 /// All bytes of the file of a name.
 ///
 /// It asks for no byte past the 16,777,217th, and takes one of each read at least, so it ends.
-/// Want of memory may be answered at any time.
+/// Want of memory is free: it may be answered at any time.
 pub fn slurp<F: Shelf>(alloc: Global, shelf: &mut F, name: &[u8]) -> Result<Vec<u8>, SlurpFault>
+    ensures asks { Takes (F.asked shelf.old) (F.asked shelf.new) (name.now ∷ []) }
     ensures bytes { IfOk result (λ bytes. Holds (F.held shelf.old) name.now bytes.items) }
     ensures within { IfOk result (λ bytes. vec_len bytes ≤ FILE_LIMIT) }
     ensures end { OnOk result (IsAtEnd (F.left shelf.new)) }
@@ -60,6 +61,10 @@ pub fn slurp<F: Shelf>(alloc: Global, shelf: &mut F, name: &[u8]) -> Result<Vec<
     ensures lacks { IsErrOf result SlurpFault.Absent → Lacks (F.held shelf.old) name.now }
     ensures fault { IsErrOf result SlurpFault.Fault → Rose (F.faults shelf.old) (F.faults shelf.new) }
     ensures too_long { IsErrOf result SlurpFault.TooLong → HoldsMore (F.held shelf.old) name.now FILE_LIMIT }
+
+    // Nothing else is counted.
+    ensures calm { ¬ IsErrOf result SlurpFault.Fault → F.faults shelf.new ≡ F.faults shelf.old }
+    ensures found { ¬ IsErrOf result SlurpFault.Absent → F.absences shelf.new ≡ F.absences shelf.old }
 
     // How many bytes were given: those of the file; or one past the limit, at TooLong and there alone.
     ensures given { IfOk result (λ bytes. F.given shelf.new ≡ plus (F.given shelf.old) (vec_len bytes)) }
@@ -80,6 +85,7 @@ pub fn slurp<F: Shelf>(alloc: Global, shelf: &mut F, name: &[u8]) -> Result<Vec<
 
 // All that is left of the chosen file.
 fn read_rest<F: Shelf>(alloc: Global, shelf: &mut F) -> Result<Vec<u8>, SlurpFault>
+    ensures same_asked { F.asked shelf.new ≡ F.asked shelf.old }
     ensures bytes { IfOk result (λ bytes. Consumes (F.left shelf.old) (F.left shelf.new) bytes.items) }
     ensures within { IfOk result (λ bytes. vec_len bytes ≤ FILE_LIMIT) }
     ensures end { OnOk result (IsAtEnd (F.left shelf.new)) }
@@ -88,13 +94,15 @@ fn read_rest<F: Shelf>(alloc: Global, shelf: &mut F) -> Result<Vec<u8>, SlurpFau
     ensures fault { IsErrOf result SlurpFault.Fault → Rose (F.faults shelf.old) (F.faults shelf.new) }
     ensures too_long { IsErrOf result SlurpFault.TooLong → IfSome (F.left shelf.old) (λ bytes. FILE_LIMIT < length bytes) }
 
+    ensures calm { ¬ IsErrOf result SlurpFault.Fault → F.faults shelf.new ≡ F.faults shelf.old }
+
     ensures given { IfOk result (λ bytes. F.given shelf.new ≡ plus (F.given shelf.old) (vec_len bytes)) }
     ensures given_too_long { IsErrOf result SlurpFault.TooLong → F.given shelf.new ≡ plus (F.given shelf.old) (FILE_LIMIT + 1) }
     ensures too_long_where { F.given shelf.old + FILE_LIMIT < F.given shelf.new → IsErrOf result SlurpFault.TooLong }
 
     ensures same_held { F.held shelf.new ≡ F.held shelf.old }
     ensures faults_rise { F.faults shelf.old ≤ F.faults shelf.new }
-    ensures absences_rise { F.absences shelf.old ≤ F.absences shelf.new }
+    ensures same_absences { F.absences shelf.new ≡ F.absences shelf.old }
     ensures given_rises { F.given shelf.old ≤ F.given shelf.new }
 {
     let mut bytes = Vec::new(alloc);
@@ -117,6 +125,7 @@ pub fn put<K: Sink>(out: &mut K, text: &[u8]) -> Result<(), Failed>
     ensures ok { OnOk result (Takes (K.taken out.old) (K.taken out.new) text.now) }
     ensures front { OnErr result (TakesFront (K.taken out.old) (K.taken out.new) text.now) }
     ensures failed { OnErr result (Rose (K.faults out.old) (K.faults out.new)) }
+    ensures calm { OnOk result (K.faults out.new ≡ K.faults out.old) }
     ensures faults_rise { K.faults out.old ≤ K.faults out.new }
 {
     let mut rest = text;

@@ -1,4 +1,4 @@
-use Rattle.std.proofs.Common.{◌≡◌, ◌+◌, ◌-◌, ℕ, List, length, take, drop, ap, subst, ◌∙◌, arith}
+use Rattle.std.proofs.Common.{◌≡◌, ◌+◌, ◌-◌, ℕ, List, length, take, drop, ap, subst, ◌∙◌, arith, rules}
 use Rattle.std.proofs.lemmas.Result.{err_from_is_err_and}
 use Rattle.std.proofs.lemmas.List.{drop-drop, take_all, length-drop}
 use Rattle.lensio.specs.Taken.{Takes, TakesFront}
@@ -29,5 +29,5 @@ loop-rest-preserved g c =
         subst (Takes _ _) (take-plus so_far.0 count c.args.text.now)
             (Takes-trans _ _ _ _ _ so_far.2 (subst (λ r. Takes (g.K.Sink.taken c.loop-rest.out) (g.K.Sink.taken c.write.new.self) (take count r)) so_far.1 front)),
       );
-      faults_rise = omega arith;
+      calm = search rules;
     }

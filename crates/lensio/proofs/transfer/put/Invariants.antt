@@ -1,4 +1,4 @@
-use Rattle.std.proofs.Common.{◌≡◌, ◌≤◌, ℕ, take, drop, length}
+use Rattle.std.proofs.Common.{◌≡◌, ℕ, take, drop, length}
 use Rattle.lensio.specs.Taken.{Takes}
 use Rattle.lensio.proofs.transfer.put.Given as goal
 
@@ -6,7 +6,7 @@ use Rattle.lensio.proofs.transfer.put.Given as goal
 abbrev pub invariant-loop-rest : goal.invariant-loop-rest
 invariant-loop-rest g l = record {
   front : (n : ℕ) × (l.rest ≡ drop n l.text) × Takes (g.K.Sink.taken l.fn.out) (g.K.Sink.taken l.out) (take n l.text);
-  faults_rise : g.K.Sink.faults l.fn.out ≤ g.K.Sink.faults l.out;
+  calm : g.K.Sink.faults l.out ≡ g.K.Sink.faults l.fn.out;
 }
 
 abbrev pub decreases-loop-rest : goal.decreases-loop-rest

@@ -14,8 +14,9 @@ invariant-loop-bytes g l =
       given_least : min (g.F.Shelf.given l.shelf) (2 ^ 64 - 1) ≡ plus (g.F.Shelf.given first) (vec_len l.bytes);
       given_most : g.F.Shelf.given l.shelf ≤ g.F.Shelf.given first + vec_len l.bytes;
       same_held : g.F.Shelf.held l.shelf ≡ g.F.Shelf.held first;
-      faults_rise : g.F.Shelf.faults first ≤ g.F.Shelf.faults l.shelf;
-      absences_rise : g.F.Shelf.absences first ≤ g.F.Shelf.absences l.shelf;
+      same_asked : g.F.Shelf.asked l.shelf ≡ g.F.Shelf.asked first;
+      calm : g.F.Shelf.faults l.shelf ≡ g.F.Shelf.faults first;
+      same_absences : g.F.Shelf.absences l.shelf ≡ g.F.Shelf.absences first;
       given_rises : g.F.Shelf.given first ≤ g.F.Shelf.given l.shelf;
     }
 
