@@ -1,5 +1,5 @@
 -- What a call promises: how it ends and what it writes. A shelf and a sink may tell their bytes or not.
-use Rattle.std.specs.Prelude.{◌≡◌, ℕ, ◌⊎◌, List, Any, Option, None, Some}
+use Rattle.std.specs.Prelude.{◌≡◌, ℕ, ◌⊎◌, List, [], map, Any, Option, None, Some}
 use Rattle.lensio.specs.Taken.{Takes, TakesFront}
 use Rattle.lensmodel.specs.Texts.FaultText.{read_fault_line}
 use Rattle.lensmodel.specs.Call.TopCall.{Means}
@@ -29,6 +29,11 @@ pub record IsDue (words : List (List ℕ)) (ended : Status) (old new : Option (L
   pub status : ended ≡ (outcome files words).status
   pub text : Takes old new (outcome files words).text
   pub means : Means files (command_of words) (outcome files words)
+
+-- the names of the files of a command, in the order in which they are read
+abbrev pub names_of : Option Command → List (List ℕ)
+names_of None = []
+names_of (Some c) = map (λ file. file.1) (files_of c)
 
 -- the text is the line of a failed read of a file that the command names
 abbrev pub IsReadFaultLine : Option Command → List ℕ → Type 0

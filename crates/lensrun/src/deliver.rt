@@ -1,6 +1,6 @@
 //! The writing of what is due.
 
-ghost use Rattle.std.specs.Prelude.{◌≡◌, ◌++◌, ◌≤◌, OnOk, OnErr, is_ok, if◌then◌else◌};
+ghost use Rattle.std.specs.Prelude.{◌≡◌, ◌≢◌, ◌++◌, ◌≤◌, OnOk, OnErr, is_ok, if◌then◌else◌};
 ghost use Rattle.lensio.specs.Count.{Rose};
 ghost use Rattle.lensio.specs.Taken.{Takes, TakesFront};
 ghost use Rattle.lensmodel.specs.Texts.Book.{book_text};
@@ -18,6 +18,7 @@ use lensreport::pieces::Line;
 /// Writes what is due, and answers how the call ends.
 pub fn deliver<K: Sink>(due: &Due, out: &mut K) -> Status
     ensures delivers { Delivers (due_answer due.now) result (K.taken out.old) (K.taken out.new) (K.faults out.old) (K.faults out.new) }
+    ensures taken { result ≢ Status.WriteFault → K.faults out.new ≡ K.faults out.old }
     ensures nothing { due.now ≡ Due.Nothing → result ≡ Status.Memory }
 {
     match due {
@@ -42,6 +43,7 @@ fn write_book<K: Sink>(book: &GlassBook, out: &mut K) -> Result<(), Failed>
     ensures ok { OnOk result (Takes (K.taken out.old) (K.taken out.new) (book_text book.now)) }
     ensures front { OnErr result (TakesFront (K.taken out.old) (K.taken out.new) (book_text book.now)) }
     ensures failed { OnErr result (Rose (K.faults out.old) (K.faults out.new)) }
+    ensures taken { OnOk result (K.faults out.new ≡ K.faults out.old) }
 {
     let mut line = Line::new();
     print_glasses(book.count(), &mut line);

@@ -1,10 +1,10 @@
 //! The top call: from the words and the files to the status and the text.
 
-ghost use Rattle.std.specs.Prelude.{◌≡◌, ◌+◌, ◌⊎◌, ◌<◌, [], None, map};
+ghost use Rattle.std.specs.Prelude.{◌≡◌, ◌≢◌, ◌+◌, ◌⊎◌, ◌<◌, [], None, map};
 ghost use Rattle.lensio.specs.Count.{Rose, RoseBy};
-ghost use Rattle.lensio.specs.Taken.{Takes};
+ghost use Rattle.lensio.specs.Taken.{Takes, TakesFront};
 ghost use Rattle.lensmodel.specs.Call.TopCall.{command_of};
-ghost use Rattle.lensrun.specs.Promise.{IsComplete, IsDecided, IsDue, OfFiles, WritesDueFront, WritesReadFault, WritesReadFaultFront};
+ghost use Rattle.lensrun.specs.Promise.{IsComplete, IsDecided, IsDue, OfFiles, WritesDueFront, WritesReadFault, WritesReadFaultFront, names_of};
 
 use crate::deliver::deliver;
 use crate::gather::gather;
@@ -18,7 +18,7 @@ use std::sync::ledger::Ledger;
 
 /// Does what the words ask: reads the files from the shelf, checks them, and writes the report to
 /// the sink. On every status but `Done`, `WriteFault` and `Memory` the text is one fault line; with
-/// `Memory` nothing is written. Each prepared surface counts a step.
+/// `Memory`, which is free where the words fit a command, nothing is written. Each prepared surface counts a step.
 pub fn run<F: Shelf, K: Sink, L: Ledger>(
     alloc: Global,
     words: &[Vec<u8>],
@@ -33,12 +33,20 @@ pub fn run<F: Shelf, K: Sink, L: Ledger>(
     ensures outcome { let said = map (λ w. w.items) words.now in IsDecided result → OfFiles (F.held shelf.old) (IsDue said result (K.taken out.old) (K.taken out.new)) }
     ensures usage { command_of (map (λ w. w.items) words.now) ≡ None → (result ≡ Status.Usage) ⊎ (result ≡ Status.WriteFault) }
 
-    // Each of these comes only by its cause.
+    // The shelf is asked for the files of the command alone, in their order, and isn't touched where
+    // there is none.
+    ensures asks { TakesFront (F.asked shelf.old) (F.asked shelf.new) (names_of (command_of (map (λ w. w.items) words.now))) }
+    ensures untouched { command_of (map (λ w. w.items) words.now) ≡ None → shelf.new ≡ shelf.old }
+
+    // Each of these comes only by its cause, and nothing else is counted.
     ensures absent { result ≡ Status.Absent → Rose (F.absences shelf.old) (F.absences shelf.new) }
     ensures read_fault { result ≡ Status.ReadFault → Rose (F.faults shelf.old) (F.faults shelf.new) }
     ensures too_long { result ≡ Status.TooLong → RoseBy (FILE_LIMIT + 1) (F.given shelf.old) (F.given shelf.new) }
     ensures too_long_where { F.given shelf.old + FILE_LIMIT < F.given shelf.new → (result ≡ Status.TooLong) ⊎ (result ≡ Status.WriteFault) }
     ensures write_fault { result ≡ Status.WriteFault → Rose (K.faults out.old) (K.faults out.new) }
+    ensures calm { result ≢ Status.ReadFault → result ≢ Status.WriteFault → F.faults shelf.new ≡ F.faults shelf.old }
+    ensures found { result ≢ Status.Absent → result ≢ Status.WriteFault → F.absences shelf.new ≡ F.absences shelf.old }
+    ensures taken { result ≢ Status.WriteFault → K.faults out.new ≡ K.faults out.old }
 
     // What is written where the outside fails: the line of a failed read, a front of the text of a
     // sink that fails, and nothing for want of memory.

@@ -1,4 +1,4 @@
-use Rattle.std.proofs.Common.{◌∙◌, arith}
+use Rattle.std.proofs.Common.{◌∙◌, arith, rules}
 use Rattle.std.proofs.lemmas.Result.{err_from_is_err_and}
 use Rattle.lensrun.proofs.Lines.{head_front, line_front, line_taken}
 use Rattle.lensrun.proofs.deliver.write_book.Goals as goal
@@ -26,5 +26,5 @@ loop-i-preserved g c = record {
   taken = line_taken _ _ _ c.args.book.now c.loop-i.i c.at.result.now c.as_bytes-in-loop-i.result.now c.at.ensures
       (c.as_bytes-in-loop-i.ensures.value ∙ c.as_str-in-loop-i.ensures.value ∙ c.print_glass.ensures)
       c.loop-i.invariant.taken c.in_ok-put-2.ensures.ok;
-  faults_rise = omega arith;
+  calm = search rules;
 }
