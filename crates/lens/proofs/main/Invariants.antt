@@ -1,4 +1,4 @@
 use Rattle.lens.proofs.main.Given as goal
 
-abbrev pub ghosts-status_of : goal.ghosts-status_of
-ghosts-status_of a = record { name = a.blank.name; parts = a.blank.parts }
+abbrev pub ghosts-process : goal.ghosts-process
+ghosts-process a = record { name = a.blank.name; parts = a.blank.parts }
