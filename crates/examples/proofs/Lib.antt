@@ -15,8 +15,10 @@ mod FirstOrderExamples
 pub mod Flat
 pub mod Fronts
 pub mod Height
+pub mod JobFiles
 mod JoiningExamples
 mod LaunchExamples
+pub mod LensFiles
 pub mod Level
 pub mod Mirrors
 pub mod Near

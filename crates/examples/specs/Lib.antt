@@ -8,14 +8,17 @@ pub mod ComputedRounds
 pub mod ComputedRows
 pub mod ComputedScales
 pub mod Exchange
+pub mod JobFiles
 pub mod JoiningExamples
 pub mod LaunchExamples
 pub mod LaunchLaws
+pub mod LensFiles
 pub mod ParaxialExamples
 pub mod PrescriptionExamples
 pub mod SetupExamples
 pub mod SmallLenses
 pub mod SpotExamples
+pub mod TextOfLines
 pub mod Worked
 pub mod WorkedChains
 pub mod WorkedRow

@@ -1,13 +1,31 @@
 //! Small lenses, jobs and spots on which the definitions are worked out: each function does
 //! nothing, and its contract says what the definitions give.
 
+ghost use Rattle.examples.specs.JobFiles.{JobFaults, ReadJob, MostRays, BoxFaults, ReadBox};
 ghost use Rattle.examples.specs.JoiningExamples.{Wavelengths, Glasses, Tolerances, WideTolerance};
 ghost use Rattle.examples.specs.LaunchExamples.{FanOfTwo, GridOfOne};
 ghost use Rattle.examples.specs.LaunchLaws.{CountIs, FanAlongY, FanAlongX, GridAt};
+ghost use Rattle.examples.specs.LensFiles.{LineFaults, WholeFaults, ReadLens};
 ghost use Rattle.examples.specs.ParaxialExamples.{PlaneInAir, GlassSphere, MirrorFocus, SphereSums, ParaboloidSums};
 ghost use Rattle.examples.specs.PrescriptionExamples.{WideZone, SmallZone, NoZones, Norms, Faults, CoefficientBound, FoldedLens, EqualMedia};
 ghost use Rattle.examples.specs.SetupExamples.{MirrorIsWellFormed, AirIndices, Widths, Residuals, Sides, Places, Rims};
 ghost use Rattle.examples.specs.SpotExamples.{GridStatistics, MixedStatistics, FarStatistics};
+
+/// What lens files say, and why others are refused.
+pub fn lens_files()
+    ensures lines { LineFaults }
+    ensures whole { WholeFaults }
+    ensures lens { ReadLens }
+{}
+
+/// What jobs and tolerance boxes say, and why others are refused.
+pub fn job_files()
+    ensures faults { JobFaults }
+    ensures job { ReadJob }
+    ensures most { MostRays }
+    ensures box_faults { BoxFaults }
+    ensures box_read { ReadBox }
+{}
 
 /// The rays of a job: a line asks for as many as its count says, and each is known by its place.
 pub fn asked_rays()

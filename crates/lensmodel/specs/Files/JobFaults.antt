@@ -1,6 +1,6 @@
 -- Which lines of a job offend: cited by Files/Job.antt. A line is its list of words, and a remark has none; n is its number, and
 -- before are the lines before it.
-use Rattle.std.specs.Prelude.{ℕ, suc, ℤ, pos, negsuc, Bool, false, ◌||◌, nat_eq, not, is_none, List, [], ◌∷◌, length, drop, take, codes, Option, Some, None, if◌then◌else◌}
+use Rattle.std.specs.Prelude.{ℕ, suc, ℤ, pos, negsuc, Bool, false, nat_eq, not, is_none, List, [], ◌∷◌, length, drop, codes, Option, Some, None, if◌then◌else◌}
 use Rattle.std.specs.List.{list_any}
 use Rattle.fixdec.specs.Reading.{decimal_of}
 use Rattle.lensmodel.specs.Files.Causes.{fault_if, first_fault}
@@ -66,11 +66,11 @@ WAVE_offence n before line = first_fault (wrong_count n 1 line ∷ second n is_W
 -- RES r
 abbrev pub RES_offence : ℕ → List Words → Words → Option JobFault
 RES_offence n before line = first_fault (
-  wrong_count n 1 line
-  ∷ second n is_RES before
-  ∷ bad_whole n 1 line
-  ∷ out_of_range n (is_within is_residual (whole_number 1 line))
-  ∷ [])
+    wrong_count n 1 line
+    ∷ second n is_RES before
+    ∷ bad_whole n 1 line
+    ∷ out_of_range n (is_within is_residual (whole_number 1 line))
+    ∷ [])
 
 -- WIDTH w
 abbrev pub WIDTH_offence : ℕ → List Words → Words → Option JobFault
@@ -91,12 +91,12 @@ AIM_offence n before line = first_fault (wrong_count n 4 line ∷ bad_decimals n
 -- FAN p q n, SPOT p q n: n in its range
 abbrev pub spread_offence : ℕ → (ℕ → Bool) → List Words → Words → Option JobFault
 spread_offence n range before line = first_fault (
-  wrong_count n 3 line
-  ∷ bad_decimals n line
-  ∷ bad_whole n 3 line
-  ∷ no_pupil n before
-  ∷ out_of_range n (is_within range (whole_number 3 line))
-  ∷ [])
+    wrong_count n 3 line
+    ∷ bad_decimals n line
+    ∷ bad_whole n 3 line
+    ∷ no_pupil n before
+    ∷ out_of_range n (is_within range (whole_number 3 line))
+    ∷ [])
 
 -- a line with words, by its first; any other first word is a fault
 abbrev pub record_offence : ℕ → List Words → Words → Option JobFault

@@ -57,11 +57,11 @@ MODE_fault n line = first_fault (missing n 1 line ∷ fault_if (same_word (word_
 -- SURF n behind so many others: n is their count, which is at most 63
 abbrev pub SURF_fault : ℕ → ℕ → Words → Option ZmxFault
 SURF_fault n count line = first_fault (
-  missing n 1 line
-  ∷ bad_index n 1 line
-  ∷ fault_if (not (is_number count (word_at 1 line))) (SurfaceOrder n)
-  ∷ fault_if (nat_eq count 64) (TooManySurfaces n)
-  ∷ [])
+    missing n 1 line
+    ∷ bad_index n 1 line
+    ∷ fault_if (not (is_number count (word_at 1 line))) (SurfaceOrder n)
+    ∷ fault_if (nat_eq count 64) (TooManySurfaces n)
+    ∷ [])
 
 -- TYPE word
 abbrev pub TYPE_fault : ℕ → Words → Option ZmxFault
@@ -78,10 +78,10 @@ DISZ_fault n line = first_fault (missing n 1 line ∷ (if is_infinity (word_at 1
 -- GLAS name
 abbrev pub GLAS_fault : ℕ → Words → Option ZmxFault
 GLAS_fault n line = first_fault (
-  missing n 1 line
-  ∷ fault_if (nat_lt 40 (length (word_at 1 line))) (LongName n)
-  ∷ fault_if (same_word (word_at 1 line) (codes "___BLANK")) (ModelGlass n)
-  ∷ [])
+    missing n 1 line
+    ∷ fault_if (nat_lt 40 (length (word_at 1 line))) (LongName n)
+    ∷ fault_if (same_word (word_at 1 line) (codes "___BLANK")) (ModelGlass n)
+    ∷ [])
 
 -- DIAM s, and a flag that need not be there
 abbrev pub DIAM_fault : ℕ → Words → Option ZmxFault
