@@ -30,7 +30,7 @@ fn far_quotient(n: u128, d: u64) -> u128
 
 // the quotient `n / d`, rounded down
 #[inline(always)]
-fn quotient(n: u128, d: u64) -> u128
+pub(crate) fn quotient(n: u128, d: u64) -> u128
     requires { 0 < d }
     ensures { result ≡ n / d }
 {
@@ -43,7 +43,7 @@ fn quotient(n: u128, d: u64) -> u128
 
 // how far `a` lies from 0, or below -1: of a quotient rounded down the same holds
 #[inline(always)]
-fn distance(a: i128) -> u128
+pub(crate) fn distance(a: i128) -> u128
     ensures above { pos 0 ≤ℤ a → a ≡ pos result }
     ensures below { a <ℤ pos 0 → a ≡ negsuc result }
 {

@@ -8,3 +8,4 @@ mod near;
 pub mod root;
 pub mod span;
 pub mod step;
+pub mod tens;
