@@ -3,9 +3,9 @@ use Rattle.std.proofs.Common.{◌≡◌, zero, suc, arith, [], ◌∷◌}
 use Rattle.std.specs.Prelude.{ℤ, pos, negsuc, ◌≤ℤ◌, ◌*ℤ◌}
 use Rattle.std.proofs.lemmas.Int.{ints}
 use lib.IntN.{neg_ℤ, *ℤ_comm}
-use Rattle.fixdec.specs.Ring.{var, ◌⊗◌, neg}
-use Rattle.fixdec.specs.IntLaws.{ringℤ}
-use Rattle.fixdec.specs.Order.{scale_le}
+use Rattle.fixdec.specs.Algebra.Ring.{var, ◌⊗◌, neg}
+use Rattle.fixdec.specs.Algebra.IntLaws.{ringℤ}
+use Rattle.fixdec.specs.Algebra.Order.{scale_le}
 
 -- a factor that isn't negative keeps the order, one that isn't positive turns it
 pub keeps : (x y k : ℤ) → pos 0 ≤ℤ k → x ≤ℤ y → (x *ℤ k) ≤ℤ (y *ℤ k)

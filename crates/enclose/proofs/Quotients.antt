@@ -5,8 +5,9 @@ use Rattle.std.proofs.lemmas.Int.{ints}
 use lib.IntN.{neg_ℤ}
 use Rattle.fixdec.specs.Ends.{Ends}
 use Rattle.fixdec.specs.Interval.{unit, holds_zero, least_quotient, greatest_quotient}
-use Rattle.fixdec.specs.Order.{cancel_le}
-use Rattle.fixdec.specs.Rounding.{floor, ceil, floor_below, ceil_above}
+use Rattle.fixdec.specs.Algebra.Order.{cancel_le}
+use Rattle.fixdec.specs.Rounding.{floor, ceil}
+use Rattle.fixdec.specs.Algebra.RoundingLaws.{floor_below, ceil_above}
 use Rattle.enclose.specs.EndLaws.{without_zero, least_quotient_is, greatest_quotient_is}
 
 pub floor_le_ceil : (x y : ℤ) (d : ℕ) → 0 < d → x ≤ℤ y → floor x (pos d) ≤ℤ ceil y (pos d)

@@ -6,7 +6,8 @@ use Rattle.std.proofs.lemmas.Int.{ints}
 use native.Mathlib.Nat.{mul-le-mul, mul-le-mul_right}
 use Rattle.fixdec.specs.Ends.{Ends}
 use Rattle.fixdec.specs.Interval.{ends, positive_part, iv_root}
-use Rattle.fixdec.specs.Root.{root, root_up_by, root_is, root_up_by_is, root_least}
+use Rattle.fixdec.specs.Root.{root, root_up_by}
+use Rattle.fixdec.specs.Algebra.RootLaws.{root_is, root_up_by_is, root_least}
 use Rattle.fixdec.specs.declared.step.Step.TheVariants.{Empty}
 
 le_of_square : (x y : ℕ) → x * x ≤ y * y → x ≤ y

@@ -4,7 +4,7 @@ use Rattle.std.specs.Prelude.{ℤ, pos, negsuc, ◌*ℤ◌, ◌≤ℤ◌, ◌<�
 use Rattle.std.proofs.lemmas.Int.{ints}
 use Rattle.fixdec.specs.Ends.{Ends}
 use Rattle.fixdec.specs.Interval.{ends, iv_shift}
-use Rattle.fixdec.specs.Order.{scale_le}
+use Rattle.fixdec.specs.Algebra.Order.{scale_le}
 use Rattle.fixdec.specs.Rounding.{floor, ceil}
 
 pub raised_le : (x y : ℤ) (n : ℕ) → x ≤ℤ y → (x *ℤ pos n) ≤ℤ (y *ℤ pos n)

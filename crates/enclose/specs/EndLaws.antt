@@ -6,10 +6,11 @@ use native.Mathlib.Nat.{mul-le-mul}
 use Rattle.std.proofs.lemmas.Bool.{cond_both}
 use Rattle.fixdec.specs.Ends.{Ends}
 use Rattle.fixdec.specs.Interval.{unit, least, greatest, least_product, greatest_product, holds_zero, least_size, greatest_size, least_quotient, greatest_quotient, positive_part}
-use Rattle.fixdec.specs.Products.{IsBelowProducts, IsAboveProducts, IsBelowSizes, IsAboveSizes}
-use Rattle.fixdec.specs.Quotients.{IsBelowQuotients, IsAboveQuotients}
-use Rattle.fixdec.specs.Root.{root, root_up_by, root_is, root_unique, root_up_by_is}
-use Rattle.fixdec.specs.Roots.{IsBelowRoot, IsAboveRoot}
+use Rattle.fixdec.specs.Algebra.Products.{IsBelowProducts, IsAboveProducts, IsBelowSizes, IsAboveSizes}
+use Rattle.fixdec.specs.Algebra.Quotients.{IsBelowQuotients, IsAboveQuotients}
+use Rattle.fixdec.specs.Root.{root, root_up_by}
+use Rattle.fixdec.specs.Algebra.RootLaws.{root_is, root_unique, root_up_by_is}
+use Rattle.fixdec.specs.Algebra.Roots.{IsBelowRoot, IsAboveRoot}
 use Rattle.fixdec.specs.Rounding.{floor, ceil}
 
 -- ---- four numbers

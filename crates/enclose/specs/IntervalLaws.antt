@@ -6,15 +6,16 @@ use Rattle.std.specs.Prelude.{ℤ, pos, negsuc, ◌≤ℤ◌, int_le, int_lt, if
 use Rattle.std.specs.Int.{int_min, int_max}
 use Rattle.fixdec.specs.Ends.{Ends}
 use Rattle.fixdec.specs.Frac.{Frac, ◌≈◌, ◌≤Q◌, ◌+Q◌, ◌*Q◌, ◌-Q◌, neg_Q, whole}
-use Rattle.fixdec.specs.FracLaws.{≈_refl}
-use Rattle.fixdec.specs.Interval.{fits_cap, ends, holds_zero, least_quotient, greatest_quotient, positive_part, iv_plus, iv_minus, iv_times, iv_square, iv_over, iv_root, iv_widen, iv_shift, iv_clip, iv_size, size}
+use Rattle.fixdec.specs.Algebra.FracLaws.{≈_refl}
+use Rattle.fixdec.specs.Interval.{fits_cap, ends, holds_zero, least_quotient, greatest_quotient, positive_part, iv_plus, iv_minus, iv_times, iv_square, iv_over, iv_root, iv_widen, iv_shift, iv_clip, iv_size}
+use Rattle.fixdec.specs.Frac.{size}
 use Rattle.fixdec.specs.Member.{IsMember, IsNear, IsShifted, Symbols}
-use Rattle.fixdec.specs.MemberLaws.{unit_pos, ends_in_order, plus_law, minus_law, widen_law, divide_law, multiply_law, clip_law, symbol_law}
-use Rattle.fixdec.specs.Order.{nn_in}
-use Rattle.fixdec.specs.Products.{product_law, square_law, size_law}
-use Rattle.fixdec.specs.Quotients.{over_law}
+use Rattle.fixdec.specs.Algebra.MemberLaws.{unit_pos, ends_in_order, plus_law, minus_law, widen_law, divide_law, multiply_law, clip_law, symbol_law}
+use Rattle.fixdec.specs.Algebra.Order.{nn_in}
+use Rattle.fixdec.specs.Algebra.Products.{product_law, square_law, size_law}
+use Rattle.fixdec.specs.Algebra.Quotients.{over_law}
 use Rattle.fixdec.specs.Root.{root, root_up_by}
-use Rattle.fixdec.specs.Roots.{holds_square, root_law}
+use Rattle.fixdec.specs.Algebra.Roots.{holds_square, root_law}
 use Rattle.fixdec.specs.Steps.{OnVal}
 use Rattle.fixdec.specs.declared.step.Step.TheVariants.{Val, Empty, Lost}
 use Rattle.fixdec.specs.declared.step.Why.TheVariants.{Zero, Range}

@@ -4,7 +4,7 @@ use Rattle.fixdec.specs.Ends.{Ends}
 use Rattle.fixdec.specs.Frac.{Frac}
 use Rattle.fixdec.specs.IntervalOperations.{operations}
 use Rattle.fixdec.specs.Member.{IsMember, Symbols}
-use Rattle.fixdec.specs.MemberLaws.{same_law}
+use Rattle.fixdec.specs.Algebra.MemberLaws.{same_law}
 use Rattle.fixdec.specs.Operations.{IsLawful}
 use Rattle.enclose.specs.IntervalLaws.{iv_plus-encloses, iv_minus-encloses, iv_times-encloses, iv_square-encloses, iv_over-encloses, iv_root-encloses, iv_widen-encloses, iv_shift-encloses, iv_clip-encloses, iv_symbol-encloses}
 

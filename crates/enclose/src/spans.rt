@@ -7,7 +7,7 @@
 
 ghost use Rattle.std.specs.Prelude.{◌≡◌, false, ℕ, ℤ, pos, negsuc, ◌≤◌, ◌<◌, ◌≤ℤ◌, ◌+ℤ◌, ◌*ℤ◌, ◌*◌, ◌^◌, unsigned_abs};
 ghost use Rattle.fixdec.specs.Ends.{Ends, InCap};
-ghost use Rattle.fixdec.specs.Frac.{Frac, ◌≈◌, ◌≤Q◌, ◌+Q◌, ◌-Q◌, ◌*Q◌, whole};
+ghost use Rattle.fixdec.specs.Frac.{Frac, ◌≈◌, ◌≤Q◌, ◌+Q◌, ◌-Q◌, ◌*Q◌, size, whole};
 ghost use Rattle.fixdec.specs.Interval as spec;
 ghost use Rattle.fixdec.specs.Member.{IsMember, IsNear, IsShifted};
 ghost use Rattle.fixdec.specs.Steps.{OnVal};
@@ -166,7 +166,7 @@ fn greatest_size(a: Span) -> i128
 pub fn iv_size(a: Span) -> Span
     ensures exact { result ≡ spec.iv_size a }
     ensures encloses { (scale : ℕ) (u : Frac) → IsMember scale a u
-        → IsMember scale result (spec.size u) }
+        → IsMember scale result (size u) }
 {
     Span {
         lo: least_size(a),

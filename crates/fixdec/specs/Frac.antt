@@ -1,7 +1,7 @@
 -- A fraction is a whole numerator over a positive whole denominator. Fractions are compared by cross multiplication.
 use Rattle.std.specs.Prelude.{◌≡◌, ℕ, suc, ℤ, pos, ◌+◌, ◌*◌, ◌+ℤ◌, ◌*ℤ◌, ◌≤ℤ◌, ◌<ℤ◌, List}
 use lib.IntN.{neg_ℤ}
-use Rattle.fixdec.specs.Ring.{E, eval, at, Given, Holds, Bounds, Bound, Defs, Stands}
+use Rattle.fixdec.specs.Algebra.Ring.{E, eval, at, Given, Holds, Bounds, Bound, Defs, Stands}
 
 -- `num` over `less + 1`
 pub record Frac : Type 0 where

@@ -2,11 +2,12 @@
 use Rattle.std.proofs.Common.{refl, sym, List, [], ◌∷◌}
 use Rattle.std.specs.Prelude.{ℤ, pos, negsuc, ◌+ℤ◌, ◌*ℤ◌}
 use lib.Dec.{T}
-use Rattle.fixdec.specs.Ring.{E, var, con, ◌⊕◌, ◌⊗◌, ◌⊖◌, neg, norm, is_zero, IsRing, Given, none, take, combo, Defs, put_all}
-use Rattle.fixdec.specs.Frac.{Frac, den, ◌≈◌, ◌+Q◌, ◌*Q◌, ◌-Q◌, neg_Q, whole, evalQ, HoldsQ, atQ, StandsQ}
-use Rattle.fixdec.specs.IntLaws.{ringℤ, fromℤ}
-use Rattle.fixdec.specs.RingLaws.{ring, from, from_defs}
-use Rattle.fixdec.specs.Terms.{cancel, is, is_add, is_mul, is_sub, is_neg, is_whole, same_if}
+use Rattle.fixdec.specs.Algebra.Ring.{E, var, con, ◌⊕◌, ◌⊗◌, ◌⊖◌, neg, norm, is_zero, IsRing, Given, none, take, combo, Defs, put_all}
+use Rattle.fixdec.specs.Frac.{Frac, den, ◌≈◌, ◌+Q◌, ◌*Q◌, ◌-Q◌, neg_Q, whole}
+use Rattle.fixdec.specs.Algebra.Expressions.{evalQ, HoldsQ, atQ, StandsQ}
+use Rattle.fixdec.specs.Algebra.IntLaws.{ringℤ, fromℤ}
+use Rattle.fixdec.specs.Algebra.RingLaws.{ring, from, from_defs}
+use Rattle.fixdec.specs.Algebra.Terms.{cancel, is, is_add, is_mul, is_sub, is_neg, is_whole, same_if}
 
 pub ≈_refl : (x : Frac) → x ≈ x
 ≈_refl x = record { cross = refl }

@@ -5,9 +5,9 @@ use Rattle.std.specs.Prelude.{ℤ, ◌+ℤ◌, ◌-ℤ◌, ◌*ℤ◌}
 use lib.IntN.{neg_ℤ, +ℤ_assoc, +ℤ_comm, +ℤ_idl, *ℤ_comm, zero-*ℤ}
 use lib.Dec.{T}
 use borrow.Author.Differences.{up, down, sum_is_lem, product_is}
-use Rattle.fixdec.specs.Ring.{E, ◌⊖◌, norm, is_zero, IsRing, at, Given, combo}
-use Rattle.fixdec.specs.Ints.{id_ℤ, evalℤ, Holdsℤ}
-use Rattle.fixdec.specs.RingLaws.{ring, from}
+use Rattle.fixdec.specs.Algebra.Ring.{E, ◌⊖◌, norm, is_zero, IsRing, at, Given, combo}
+use Rattle.fixdec.specs.Algebra.Ints.{id_ℤ, evalℤ, Holdsℤ}
+use Rattle.fixdec.specs.Algebra.RingLaws.{ring, from}
 
 pub *ℤ-distrib : (a b c : ℤ) → a *ℤ (b +ℤ c) ≡ a *ℤ b +ℤ a *ℤ c
 *ℤ-distrib a b c = omega (arith, ints, ap (λ (n : ℕ). up a * n) (sum_is_lem b c), ap (λ (n : ℕ). down a * n) (sum_is_lem b c))

@@ -1,7 +1,7 @@
 -- The integers as a ring, and names to write polynomials over them.
 use Rattle.std.specs.Prelude.{◌≡◌, ℤ, ◌+ℤ◌, ◌*ℤ◌, ◌-ℤ◌, List}
 use lib.IntN.{neg_ℤ}
-use Rattle.fixdec.specs.Ring.{E, eval, at, Given, Holds}
+use Rattle.fixdec.specs.Algebra.Ring.{E, eval, at, Given, Holds}
 
 abbrev pub id_ℤ : ℤ → ℤ
 id_ℤ z = z

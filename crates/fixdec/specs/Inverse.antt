@@ -2,11 +2,11 @@
 use Rattle.std.proofs.Common.{◌≡◌, ℕ, zero, suc, refl, [], ◌∷◌, arith}
 use Rattle.std.proofs.lemmas.Int.{ints}
 use Rattle.std.specs.Prelude.{ℤ, pos, negsuc, ◌≤ℤ◌}
-use Rattle.fixdec.specs.Ring.{var, con, ◌⊗◌, neg}
+use Rattle.fixdec.specs.Algebra.Ring.{var, con, ◌⊗◌, neg}
 use Rattle.fixdec.specs.Frac.{Frac, ◌≈◌, ◌*Q◌, whole}
-use Rattle.fixdec.specs.IntLaws.{ringℤ}
-use Rattle.fixdec.specs.Terms.{is, is_mul, is_whole, same_if}
-use Rattle.fixdec.specs.Order.{NonNeg}
+use Rattle.fixdec.specs.Algebra.IntLaws.{ringℤ}
+use Rattle.fixdec.specs.Algebra.Terms.{is, is_mul, is_whole, same_if}
+use Rattle.fixdec.specs.Algebra.Order.{NonNeg}
 
 -- one over n / (d + 1), and 0 for 0
 abbrev pub flipped : ℤ → ℕ → Frac

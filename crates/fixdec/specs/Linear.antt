@@ -3,10 +3,11 @@ use Rattle.std.proofs.Common.{◌≡◌, ℕ, suc, ◌^◌, refl, sym, subst, Li
 use Rattle.std.specs.Prelude.{ℤ, pos}
 use lib.Dec.{T, leb}
 use lib.Signed.{mag}
-use Rattle.fixdec.specs.Ring.{E, var, con, ◌⊕◌, ◌⊗◌, ◌⊖◌, neg, norm, is_zero, Given, none, take, combo, Bounds, done, most, slack, Defs, no_def, def, put_all}
-use Rattle.fixdec.specs.Frac.{Frac, ◌≈◌, ◌≤Q◌, ◌+Q◌, ◌*Q◌, ◌-Q◌, neg_Q, whole, evalQ, atQ, HoldsQ, BoundQ, StandsQ}
-use Rattle.fixdec.specs.FracLaws.{ringQ, from_defsQ, ≈_sym}
-use Rattle.fixdec.specs.Order.{le_from_nn, nn_same, slack_nn}
+use Rattle.fixdec.specs.Algebra.Ring.{E, var, con, ◌⊕◌, ◌⊗◌, ◌⊖◌, neg, norm, is_zero, Given, none, take, combo, Bounds, done, most, slack, Defs, no_def, def, put_all}
+use Rattle.fixdec.specs.Frac.{Frac, ◌≈◌, ◌≤Q◌, ◌+Q◌, ◌*Q◌, ◌-Q◌, neg_Q, whole}
+use Rattle.fixdec.specs.Algebra.Expressions.{evalQ, atQ, HoldsQ, BoundQ, StandsQ}
+use Rattle.fixdec.specs.Algebra.FracLaws.{ringQ, from_defsQ, ≈_sym}
+use Rattle.fixdec.specs.Algebra.Order.{le_from_nn, nn_same, slack_nn}
 
 -- a is what t reads as
 pub record At (xs : List Frac) (a : Frac) : Type 0 where

@@ -6,13 +6,13 @@ use Rattle.std.specs.Prelude.{ℤ, pos, ◌+ℤ◌, ◌-ℤ◌, ◌*ℤ◌, ◌�
 use Rattle.std.specs.Int.{int_min, int_max}
 use Rattle.fixdec.specs.Ends.{Ends}
 use Rattle.fixdec.specs.Frac.{Frac, ◌≈◌, ◌≤Q◌, ◌<Q◌, ◌+Q◌, ◌*Q◌, ◌-Q◌, whole}
-use Rattle.fixdec.specs.FracLaws.{Q-IsRing, ≈_sym}
-use Rattle.fixdec.specs.Linear.{linear, linear_le, fact, name, order, no_fact, reads}
+use Rattle.fixdec.specs.Algebra.FracLaws.{Q-IsRing, ≈_sym}
+use Rattle.fixdec.specs.Algebra.Linear.{linear, linear_le, fact, name, order, no_fact, reads}
 use Rattle.fixdec.specs.Member.{IsMember, IsNear, Symbols, units}
-use Rattle.fixdec.specs.Order.{le_trans, le_whole, le_whole_out}
-use Rattle.fixdec.specs.OrderLaws.{lt_whole, le_of_lt, le_along, le_mul, le_same_left, le_same_right, whole_add, whole_sub, whole_mul, zero_le_one}
+use Rattle.fixdec.specs.Algebra.Order.{le_trans, le_whole, le_whole_out}
+use Rattle.fixdec.specs.Algebra.OrderLaws.{lt_whole, le_of_lt, le_along, le_mul, le_same_left, le_same_right, whole_add, whole_sub, whole_mul, zero_le_one}
 use Rattle.fixdec.specs.Rounding.{floor, ceil}
-use Rattle.fixdec.specs.RoundingLaws.{floor_under, ceil_over}
+use Rattle.fixdec.specs.Algebra.RoundingLaws.{floor_under, ceil_over}
 
 -- ---- the units of a scale
 pub unit_pos : (scale : ℕ) → pos 0 <ℤ pos (10 ^ scale)

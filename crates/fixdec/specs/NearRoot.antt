@@ -4,14 +4,15 @@ use Rattle.std.proofs.lemmas.Int.{ints}
 use Rattle.std.proofs.lemmas.Bool.{cases_lt}
 use Rattle.std.specs.Prelude.{ℤ, pos, negsuc, ◌≤ℤ◌, ◌<ℤ◌}
 use native.Mathlib.Nat.{mul-le-mul, mul-le-mul_left}
-use Rattle.fixdec.specs.Ring.{var, con, ◌⊕◌, ◌⊗◌, ◌⊖◌, neg, none, take, done, most}
+use Rattle.fixdec.specs.Algebra.Ring.{var, con, ◌⊕◌, ◌⊗◌, ◌⊖◌, neg, none, take, done, most}
 use Rattle.fixdec.specs.Frac.{Frac, den, ◌≈◌, ◌≤Q◌, ◌<Q◌, ◌+Q◌, ◌*Q◌, whole, less_both}
-use Rattle.fixdec.specs.IntLaws.{ringℤ}
-use Rattle.fixdec.specs.FracLaws.{Q-IsRing, ≈_refl, ≈_sym, ≈_trans}
-use Rattle.fixdec.specs.Terms.{is, is_mul, is_whole, same_if, den_both}
-use Rattle.fixdec.specs.Order.{nn_out, nn_in, nn_whole, nn_times, le_from, le_trans, le_of_same, le_whole, cancel_Q}
-use Rattle.fixdec.specs.OrderLaws.{zero_le_one}
-use Rattle.fixdec.specs.Root.{root, root_is}
+use Rattle.fixdec.specs.Algebra.IntLaws.{ringℤ}
+use Rattle.fixdec.specs.Algebra.FracLaws.{Q-IsRing, ≈_refl, ≈_sym, ≈_trans}
+use Rattle.fixdec.specs.Algebra.Terms.{is, is_mul, is_whole, same_if, den_both}
+use Rattle.fixdec.specs.Algebra.Order.{nn_out, nn_in, nn_whole, nn_times, le_from, le_trans, le_of_same, le_whole, cancel_Q}
+use Rattle.fixdec.specs.Algebra.OrderLaws.{zero_le_one}
+use Rattle.fixdec.specs.Root.{root}
+use Rattle.fixdec.specs.Algebra.RootLaws.{root_is}
 
 -- v isn't negative, and its square is at most g and misses it by at most eps
 pub record IsNearRoot (eps g v : Frac) : Type 0 where

@@ -6,11 +6,12 @@ use lib.IntN.{neg_ℤ}
 use lib.Dec.{T}
 use native.Mathlib.Nat.{le_of_mul-le-mul_right, mul-le-mul_right}
 use borrow.Author.Differences.{up, down, product_is}
-use Rattle.fixdec.specs.Ring.{E, var, con, ◌⊗◌, ◌⊖◌, neg, norm, is_zero, Given, none, combo, Bounds, done, most, slack}
-use Rattle.fixdec.specs.Frac.{Frac, den, ◌≈◌, ◌≤Q◌, ◌+Q◌, ◌*Q◌, ◌-Q◌, whole, evalQ, HoldsQ, BoundQ}
-use Rattle.fixdec.specs.IntLaws.{ringℤ}
-use Rattle.fixdec.specs.FracLaws.{ringQ, fromQ, ≈_sym}
-use Rattle.fixdec.specs.Terms.{is, is_add, is_mul, is_sub, is_whole}
+use Rattle.fixdec.specs.Algebra.Ring.{E, var, con, ◌⊗◌, ◌⊖◌, neg, norm, is_zero, Given, none, combo, Bounds, done, most, slack}
+use Rattle.fixdec.specs.Frac.{Frac, den, ◌≈◌, ◌≤Q◌, ◌+Q◌, ◌*Q◌, ◌-Q◌, whole}
+use Rattle.fixdec.specs.Algebra.Expressions.{evalQ, HoldsQ, BoundQ}
+use Rattle.fixdec.specs.Algebra.IntLaws.{ringℤ}
+use Rattle.fixdec.specs.Algebra.FracLaws.{ringQ, fromQ, ≈_sym}
+use Rattle.fixdec.specs.Algebra.Terms.{is, is_add, is_mul, is_sub, is_whole}
 
 pub nn_mul : (a b : ℤ) → pos 0 ≤ℤ a → pos 0 ≤ℤ b → pos 0 ≤ℤ (a *ℤ b)
 nn_mul (pos a) (pos b) h k = omega (arith, ints)

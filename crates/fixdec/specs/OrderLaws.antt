@@ -4,10 +4,10 @@ use Rattle.std.proofs.lemmas.Int.{ints, by_lt_z}
 use Rattle.std.specs.Prelude.{ℤ, pos, ◌+ℤ◌, ◌-ℤ◌, ◌*ℤ◌, ◌<ℤ◌}
 use lib.IntN.{neg_ℤ}
 use Rattle.fixdec.specs.Frac.{Frac, den, ◌≈◌, ◌≤Q◌, ◌<Q◌, ◌+Q◌, ◌*Q◌, ◌-Q◌, neg_Q, whole}
-use Rattle.fixdec.specs.FracLaws.{Q-IsRing, ≈_refl, ≈_sym, ≈_trans}
-use Rattle.fixdec.specs.Order.{nn_in, nn_out, nn_whole, nn_times, le_cases, le_trans, le_of_same, le_whole, le_whole_out}
-use Rattle.fixdec.specs.Linear.{linear, linear_le, fact, name, order, no_fact, reads}
-use Rattle.fixdec.specs.Inverse.{inverse, inverse_is, inverse_nn}
+use Rattle.fixdec.specs.Algebra.FracLaws.{Q-IsRing, ≈_refl, ≈_sym, ≈_trans}
+use Rattle.fixdec.specs.Algebra.Order.{nn_in, nn_out, nn_whole, nn_times, le_cases, le_trans, le_of_same, le_whole, le_whole_out}
+use Rattle.fixdec.specs.Algebra.Linear.{linear, linear_le, fact, name, order, no_fact, reads}
+use Rattle.fixdec.specs.Algebra.Inverse.{inverse, inverse_is, inverse_nn}
 
 -- ---- whole numbers
 pub zero_le_whole : (n : ℕ) → whole (pos 0) ≤Q whole (pos n)

@@ -11,16 +11,16 @@ use borrow.Author.Differences.{up, down}
 use Rattle.fixdec.specs.Decimal.{Decimal, tenth_power, ten_power, value}
 use Rattle.fixdec.specs.Ends.{Ends}
 use Rattle.fixdec.specs.Frac.{Frac, den, whole, neg_Q, ◌≈◌, ◌*Q◌, ◌-Q◌}
-use Rattle.fixdec.specs.FracLaws.{≈_sym, ≈_trans}
-use Rattle.fixdec.specs.Terms.{Is, is, is_mul, is_whole, same_if, cancel}
-use Rattle.fixdec.specs.IntLaws.{ringℤ}
+use Rattle.fixdec.specs.Algebra.FracLaws.{≈_sym, ≈_trans}
+use Rattle.fixdec.specs.Algebra.Terms.{Is, is, is_mul, is_whole, same_if, cancel}
+use Rattle.fixdec.specs.Algebra.IntLaws.{ringℤ}
 use Rattle.fixdec.specs.Interval.{ends, fits_cap}
-use Rattle.fixdec.specs.Linear.{linear, fact, no_fact, reads}
+use Rattle.fixdec.specs.Algebra.Linear.{linear, fact, no_fact, reads}
 use Rattle.fixdec.specs.Member.{IsMember, units}
-use Rattle.fixdec.specs.Order.{le_of_same, le_refl, le_trans, le_whole_out}
-use Rattle.fixdec.specs.Ring.{var, con, ◌⊗◌}
+use Rattle.fixdec.specs.Algebra.Order.{le_of_same, le_refl, le_trans, le_whole_out}
+use Rattle.fixdec.specs.Algebra.Ring.{var, con, ◌⊗◌}
 use Rattle.fixdec.specs.Rounding.{ratio, IsFloor, IsCeil}
-use Rattle.fixdec.specs.RoundingLaws.{ratio_is, floor_is, ceil_is}
+use Rattle.fixdec.specs.Algebra.RoundingLaws.{ratio_is, floor_is, ceil_is}
 use Rattle.fixdec.specs.Scaled.{floor_times, ceil_times, dec_floor, dec_ceil, dec_span, dec_shifted}
 use Rattle.fixdec.specs.Steps.{OnVal}
 use Rattle.fixdec.specs.declared.step.Step.TheVariants.{Val, Lost}

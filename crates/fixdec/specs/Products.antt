@@ -4,14 +4,14 @@ use Rattle.std.specs.Prelude.{ℤ, pos, ◌*ℤ◌, ◌≤ℤ◌}
 use lib.IntN.{neg_ℤ}
 use Rattle.fixdec.specs.Ends.{Ends}
 use Rattle.fixdec.specs.Frac.{Frac, ◌≈◌, ◌≤Q◌, ◌+Q◌, ◌*Q◌, ◌-Q◌, neg_Q, whole}
-use Rattle.fixdec.specs.FracLaws.{Q-IsRing, ≈_sym}
-use Rattle.fixdec.specs.Linear.{by_ring, linear, linear_le, fact, name, order, no_fact, reads}
+use Rattle.fixdec.specs.Algebra.FracLaws.{Q-IsRing, ≈_sym}
+use Rattle.fixdec.specs.Algebra.Linear.{by_ring, linear, linear_le, fact, name, order, no_fact, reads}
 use Rattle.fixdec.specs.Member.{IsMember, units}
-use Rattle.fixdec.specs.MemberLaws.{unit_pos, units_nn}
-use Rattle.fixdec.specs.Order.{le_cases, le_trans, le_whole}
-use Rattle.fixdec.specs.OrderLaws.{le_same_left, le_same_right, mul_nn, square_nn, le_mul_both, whole_mul, whole_neg, zero_le_one, zero_le_whole}
+use Rattle.fixdec.specs.Algebra.MemberLaws.{unit_pos, units_nn}
+use Rattle.fixdec.specs.Algebra.Order.{le_cases, le_trans, le_whole}
+use Rattle.fixdec.specs.Algebra.OrderLaws.{le_same_left, le_same_right, mul_nn, square_nn, le_mul_both, whole_mul, whole_neg, zero_le_one, zero_le_whole}
 use Rattle.fixdec.specs.Rounding.{floor, ceil}
-use Rattle.fixdec.specs.RoundingLaws.{floor_under, ceil_over}
+use Rattle.fixdec.specs.Algebra.RoundingLaws.{floor_under, ceil_over}
 
 -- ---- a line between two points
 -- x lies between l and h: k x is at least what k l and k h both are

@@ -4,14 +4,14 @@ use Rattle.std.proofs.lemmas.Int.{ints}
 use Rattle.std.specs.Prelude.{ℤ, pos, ◌*ℤ◌, ◌≤ℤ◌, ◌<ℤ◌}
 use Rattle.fixdec.specs.Ends.{Ends}
 use Rattle.fixdec.specs.Frac.{Frac, ◌≈◌, ◌≤Q◌, ◌<Q◌, ◌*Q◌, neg_Q, whole}
-use Rattle.fixdec.specs.Linear.{linear_le, fact, name, order, no_fact, reads}
+use Rattle.fixdec.specs.Algebra.Linear.{linear_le, fact, name, order, no_fact, reads}
 use Rattle.fixdec.specs.Member.{IsMember, units}
-use Rattle.fixdec.specs.MemberLaws.{ends_in_order, units_nn}
-use Rattle.fixdec.specs.Order.{le_whole}
-use Rattle.fixdec.specs.OrderLaws.{le_cancel, le_cancel_neg, lt_of_le_lt, lt_of_lt_le, lt_whole, whole_mul, zero_le_one}
-use Rattle.fixdec.specs.Products.{line_low, line_high}
+use Rattle.fixdec.specs.Algebra.MemberLaws.{ends_in_order, units_nn}
+use Rattle.fixdec.specs.Algebra.Order.{le_whole}
+use Rattle.fixdec.specs.Algebra.OrderLaws.{le_cancel, le_cancel_neg, lt_of_le_lt, lt_of_lt_le, lt_whole, whole_mul, zero_le_one}
+use Rattle.fixdec.specs.Algebra.Products.{line_low, line_high}
 use Rattle.fixdec.specs.Rounding.{floor, ceil}
-use Rattle.fixdec.specs.RoundingLaws.{floor_pos, ceil_pos, floor_neg, ceil_neg}
+use Rattle.fixdec.specs.Algebra.RoundingLaws.{floor_pos, ceil_pos, floor_neg, ceil_neg}
 
 -- m is at most each quotient, rounded down, of an end of a in units over an end of b
 pub record IsBelowQuotients (scale : ℕ) (m : ℤ) (a b : Ends) : Type 0 where

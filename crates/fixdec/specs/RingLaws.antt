@@ -2,7 +2,7 @@
 use Rattle.std.proofs.Common.{◌≡◌, ℕ, zero, suc, Bool, true, false, cond, subst, sym, ◌&&◌}
 use Rattle.std.specs.Prelude.{ℤ, pos, negsuc}
 use lib.Dec.{T, eqb, eqb→eq}
-use Rattle.fixdec.specs.Ring.{E, var, con, ◌⊕◌, ◌⊗◌, ◌⊖◌, neg, Pol, num, hor, mk, addc, addp, scale, mulc, mult, mulp, varp, norm, is_zero, IsRing, eval, value, Given, none, take, combo, Holds, Defs, no_def, def, put, put_all, Stands}
+use Rattle.fixdec.specs.Algebra.Ring.{E, var, con, ◌⊕◌, ◌⊗◌, ◌⊖◌, neg, Pol, num, hor, mk, addc, addp, scale, mulc, mult, mulp, varp, norm, is_zero, IsRing, eval, value, Given, none, take, combo, Holds, Defs, no_def, def, put, put_all, Stands}
 
 and_both : (a b : Bool) → T (a && b) → T a × T b
 and_both true b t = (tt, t)

@@ -3,11 +3,11 @@ use Rattle.std.proofs.Common.{◌≡◌, ℕ, ◌*◌, ◌^◌, [], ◌∷◌, s
 use Rattle.std.specs.Prelude.{pos, ◌*ℤ◌, ◌≤ℤ◌}
 use Rattle.fixdec.specs.Ends.{Ends}
 use Rattle.fixdec.specs.Frac.{Frac, ◌≤Q◌, ◌*Q◌, whole}
-use Rattle.fixdec.specs.Linear.{linear_le, name, order, no_fact, reads}
+use Rattle.fixdec.specs.Algebra.Linear.{linear_le, name, order, no_fact, reads}
 use Rattle.fixdec.specs.Member.{IsMember, units}
-use Rattle.fixdec.specs.MemberLaws.{units_nn}
-use Rattle.fixdec.specs.Order.{le_trans, le_whole, le_whole_out}
-use Rattle.fixdec.specs.OrderLaws.{le_of_squares, mul_nn, square_nn, whole_mul, zero_le_one, zero_le_whole}
+use Rattle.fixdec.specs.Algebra.MemberLaws.{units_nn}
+use Rattle.fixdec.specs.Algebra.Order.{le_trans, le_whole, le_whole_out}
+use Rattle.fixdec.specs.Algebra.OrderLaws.{le_of_squares, mul_nn, square_nn, whole_mul, zero_le_one, zero_le_whole}
 
 -- the square of lo is at most the least end of a in units, or lo is 0
 abbrev pub IsBelowRoot : ℕ → ℕ → Ends → Type 0

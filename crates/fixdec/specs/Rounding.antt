@@ -5,8 +5,8 @@ use Rattle.std.proofs.Common.{arith, [], ◌∷◌}
 use Rattle.std.proofs.lemmas.Int.{ints}
 use lib.IntN.{neg_ℤ}
 use native.Mathlib.Nat.{div-mul-le_self, lt-div-mul-add}
-use Rattle.fixdec.specs.Ring.{var, ◌⊗◌, neg}
-use Rattle.fixdec.specs.IntLaws.{ringℤ}
+use Rattle.fixdec.specs.Algebra.Ring.{var, ◌⊗◌, neg}
+use Rattle.fixdec.specs.Algebra.IntLaws.{ringℤ}
 use Rattle.fixdec.specs.Frac.{Frac, ◌≤Q◌, whole}
 
 -- the greatest whole number that is at most n / d

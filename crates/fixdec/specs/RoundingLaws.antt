@@ -4,15 +4,16 @@ use Rattle.std.proofs.lemmas.Int.{ints, by_lt_z}
 use Rattle.std.specs.Prelude.{ℤ, pos, negsuc, ◌+ℤ◌, ◌*ℤ◌, ◌≤ℤ◌, ◌<ℤ◌}
 use lib.IntN.{neg_ℤ}
 use native.Mathlib.Nat.{div-mul-le_self, lt-div-mul-add}
-use Rattle.fixdec.specs.Ring.{var, con, ◌⊕◌, ◌⊗◌, neg}
+use Rattle.fixdec.specs.Algebra.Ring.{var, con, ◌⊕◌, ◌⊗◌, neg}
 use Rattle.fixdec.specs.Frac.{Frac, ◌≈◌, ◌≤Q◌, ◌*Q◌, neg_Q, whole}
-use Rattle.fixdec.specs.IntLaws.{ringℤ}
-use Rattle.fixdec.specs.FracLaws.{≈_sym}
-use Rattle.fixdec.specs.Terms.{is, is_mul, is_neg, is_whole, same_if}
-use Rattle.fixdec.specs.Linear.{linear, name, no_fact, reads}
-use Rattle.fixdec.specs.Order.{scale_le, cancel_Q, le_trans, le_whole, le_whole_out}
-use Rattle.fixdec.specs.OrderLaws.{le_along, le_neg, le_mul, le_cancel, le_same_left, le_same_right, lt_whole, whole_mul, whole_neg, zero_le_whole}
-use Rattle.fixdec.specs.Rounding.{floor, ceil, ratio, IsFloor, IsCeil, floor_below, ceil_above}
+use Rattle.fixdec.specs.Algebra.IntLaws.{ringℤ}
+use Rattle.fixdec.specs.Algebra.FracLaws.{≈_sym}
+use Rattle.fixdec.specs.Algebra.Terms.{is, is_mul, is_neg, is_whole, same_if}
+use Rattle.fixdec.specs.Algebra.Linear.{linear, name, no_fact, reads}
+use Rattle.fixdec.specs.Algebra.Order.{scale_le, cancel_Q, le_trans, le_whole, le_whole_out}
+use Rattle.fixdec.specs.Algebra.OrderLaws.{le_along, le_neg, le_mul, le_cancel, le_same_left, le_same_right, lt_whole, whole_mul, whole_neg, zero_le_whole}
+use Rattle.fixdec.specs.Rounding.{floor, ceil, ratio, IsFloor, IsCeil}
+use Rattle.fixdec.specs.Algebra.RoundingLaws.{floor_below, ceil_above}
 
 neg_left : (a b : ℤ) → neg_ℤ a *ℤ b ≡ neg_ℤ (a *ℤ b)
 neg_left a b = let A = var 0 in let B = var 1 in ringℤ (a ∷ b ∷ []) (neg A ⊗ B) (neg (A ⊗ B)) tt

@@ -3,10 +3,10 @@ use Rattle.std.proofs.Common.{ℕ, [], ◌∷◌, arith}
 use Rattle.std.proofs.lemmas.Int.{ints}
 use Rattle.std.specs.Prelude.{ℤ, pos, unsigned_abs}
 use Rattle.fixdec.specs.Frac.{Frac, ◌≈◌, ◌≤Q◌, ◌<Q◌, ◌+Q◌, ◌*Q◌, ◌-Q◌, neg_Q, whole}
-use Rattle.fixdec.specs.FracLaws.{≈_sym}
-use Rattle.fixdec.specs.Linear.{linear_le, order, no_fact, reads}
-use Rattle.fixdec.specs.Order.{le_trans, le_of_same, le_whole}
-use Rattle.fixdec.specs.OrderLaws.{le_cancel, lt_whole, le_same_left, le_same_right, whole_neg, zero_le_one, zero_le_whole}
+use Rattle.fixdec.specs.Algebra.FracLaws.{≈_sym}
+use Rattle.fixdec.specs.Algebra.Linear.{linear_le, order, no_fact, reads}
+use Rattle.fixdec.specs.Algebra.Order.{le_trans, le_of_same, le_whole}
+use Rattle.fixdec.specs.Algebra.OrderLaws.{le_cancel, lt_whole, le_same_left, le_same_right, whole_neg, zero_le_one, zero_le_whole}
 
 -- x has at most the size p
 pub record IsWithin (p x : Frac) : Type 0 where

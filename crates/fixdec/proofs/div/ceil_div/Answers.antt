@@ -1,5 +1,5 @@
 use Rattle.std.proofs.Common.{rules}
-use Rattle.fixdec.specs.RoundingLaws.{ceil_at}
+use Rattle.fixdec.specs.Algebra.RoundingLaws.{ceil_at}
 use Rattle.fixdec.proofs.div.ceil_div.Goals as goal
 
 pub returns-clause-value : goal.returns-clause-value

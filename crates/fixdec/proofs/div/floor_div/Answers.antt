@@ -1,5 +1,5 @@
 use Rattle.std.proofs.Common.{rules}
-use Rattle.fixdec.specs.RoundingLaws.{floor_at}
+use Rattle.fixdec.specs.Algebra.RoundingLaws.{floor_at}
 use Rattle.fixdec.proofs.div.floor_div.Goals as goal
 
 pub returns-then-b-le-GREATEST-clause-exact : goal.returns-then-b-le-GREATEST-clause-exact
