@@ -1,6 +1,10 @@
 pub mod Clips
 pub mod EndsLaws
+pub mod ProductOrder
+pub mod ProductSigns
+pub mod QuotientSigns
 pub mod Quotients
 pub mod RootsOfEnds
+pub mod Selection
 pub mod Shifts
 pub mod Sizes

@@ -1,7 +1,7 @@
 -- How large raw numbers and their products are, and that they fit.
 use Rattle.std.proofs.Common.{ℕ, ◌≡◌, ◌≤◌, ◌^◌, ◌*◌, arith, ap, ◌∙◌}
 use Rattle.std.specs.Prelude.{ℤ, pos, ◌*ℤ◌, unsigned_abs, FitsSigned}
-use Rattle.std.specs.Int.{w128, cast_signed, cast_unsigned, int_min, int_max}
+use Rattle.std.specs.Int.{w64, w128, cast_signed, cast_unsigned, int_min, int_max}
 use Rattle.std.proofs.Math.Nat.{pow-le-pow_right}
 use Rattle.std.proofs.lemmas.Int.{ints, clamps, to_z-of_z, fits_signed_from_abs, unsigned_abs-mul}
 use native.Mathlib.Nat.{mul-le-mul}
@@ -75,3 +75,20 @@ module _ (al ah bl bh : ℤ) (p : InCap al) (q : InCap ah) (r : InCap bl) (s : I
 -- a number times a power of ten, as the code has it
 pub raised_at : {r : ℤ} (z : ℤ) (k : ℕ) → InCap z → k ≤ 15 → r ≡ cast_signed w128 (cast_unsigned w128 z) *ℤ pos (10 ^ k) → cast_signed w128 (cast_unsigned w128 r) ≡ z *ℤ pos (10 ^ k)
 raised_at z k p h e = let size = raised_size z k p h in carried (e ∙ ap (λ x. x *ℤ pos (10 ^ k)) (small_is z p)) (omega arith)
+
+-- a number of 64 bits, and a product of two
+pub word_is : (z : ℤ) → InCap z → cast_signed w64 (cast_unsigned w64 z) ≡ z
+word_is z h = to_z-of_z w64 z (fits_signed_from_abs w64 z (omega arith))
+
+pub word_product_at : {r : ℤ} (x y : ℤ) → InCap x → InCap y → r ≡ cast_signed w64 (cast_unsigned w64 x) *ℤ cast_signed w64 (cast_unsigned w64 y)
+    → cast_signed w128 (cast_unsigned w128 r) ≡ x *ℤ y
+word_product_at x y p q e =
+    let size = product_size x y p q in
+    carried (e ∙ (λ i. word_is x p i *ℤ word_is y q i)) (omega arith)
+
+-- a number handed on in 64 bits
+pub short_at : {r : ℤ} (z : ℤ) → InCap z → r ≡ cast_signed w128 (cast_unsigned w128 z) → cast_signed w64 (cast_unsigned w64 r) ≡ z
+short_at z h e = ap (λ y. cast_signed w64 (cast_unsigned w64 y)) (e ∙ small_is z h) ∙ word_is z h
+
+pub widened_at : {r : ℤ} (z : ℤ) → InCap z → r ≡ cast_signed w128 (cast_unsigned w128 z) → cast_signed w128 (cast_unsigned w128 (cast_signed w64 (cast_unsigned w64 r))) ≡ z
+widened_at z h e = ap (λ y. cast_signed w128 (cast_unsigned w128 y)) (short_at z h e) ∙ small_is z h

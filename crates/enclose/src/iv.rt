@@ -27,6 +27,7 @@ impl<const S: u32> Model for Iv<S> {
 }
 
 /// The step of a span as one of an interval.
+#[inline(always)]
 fn of_step<const S: u32>(r: Step<Span>) -> Step<Iv<S>>
     ensures { result ≡ r }
 {
@@ -48,50 +49,62 @@ impl<const S: u32> Arith for Iv<S> {
 
     ghost lawful = { λ _. iv_lawful S };
 
+    #[inline(always)]
     fn of_span(s: Span) -> Iv<S> {
         Iv { span: s }
     }
 
+    #[inline(always)]
     fn hull(&self) -> Span {
         self.span
     }
 
+    #[inline(always)]
     fn plus(self, o: Iv<S>) -> Step<Iv<S>> {
         of_step(spans::iv_plus(S, self.span, o.span))
     }
 
+    #[inline(always)]
     fn minus(self, o: Iv<S>) -> Step<Iv<S>> {
         of_step(spans::iv_minus(S, self.span, o.span))
     }
 
+    #[inline(always)]
     fn times(self, o: Iv<S>) -> Step<Iv<S>> {
         of_step(spans::iv_times(S, self.span, o.span))
     }
 
+    #[inline(always)]
     fn square(self) -> Step<Iv<S>> {
         of_step(spans::iv_square(S, self.span))
     }
 
+    #[inline(always)]
     fn over(self, o: Iv<S>) -> Step<Iv<S>> {
         of_step(spans::iv_over(S, self.span, o.span))
     }
 
+    #[inline(always)]
     fn root(self) -> Step<Iv<S>> {
         of_step(spans::iv_root(S, self.span))
     }
 
+    #[inline(always)]
     fn widen(self, e: i128) -> Step<Iv<S>> {
         of_step(spans::iv_widen(self.span, e))
     }
 
+    #[inline(always)]
     fn shift(self, k: i32) -> Step<Iv<S>> {
         of_step(spans::iv_shift(self.span, k))
     }
 
+    #[inline(always)]
     fn clip(self, s: Span) -> Step<Iv<S>> {
         of_step(spans::iv_clip(self.span, s))
     }
 
+    #[inline(always)]
     fn symbol(self, _i: usize, delta: Span) -> Step<Iv<S>> {
         of_step(spans::iv_widen(self.span, delta.hi))
     }

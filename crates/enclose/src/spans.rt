@@ -13,30 +13,57 @@ ghost use Rattle.fixdec.specs.Member.{IsMember, IsNear, IsShifted};
 ghost use Rattle.fixdec.specs.Steps.{OnVal};
 ghost use Rattle.fixdec.specs.Rounding.{floor, ceil};
 
+use crate::signs;
+use crate::signs::product;
 use fixdec::div::{ceil_div, floor_div, pow10};
 use fixdec::root::{isqrt_ceil, isqrt_floor};
 use fixdec::span::{CAP, Span};
 use fixdec::step::{Step, Why};
+use fixdec::tens::{ceil_pow10, floor_pow10};
 
-fn fits_cap(z: i128) -> bool
-    ensures { result ≡ spec.fits_cap z }
-{
-    -CAP <= z && z <= CAP
-}
-
+#[inline(always)]
 #[tactic(auto, unfolding(fixdec::specs::Interval::ends))]
 fn ends(lo: i128, hi: i128) -> Step<Span>
     requires { lo ≤ℤ hi }
     ensures { result ≡ spec.ends lo hi }
 {
-    if fits_cap(lo) && fits_cap(hi) {
+    if -CAP <= lo && hi <= CAP {
         Step::Val(Span { lo, hi })
     } else {
         Step::Lost(Why::Range)
     }
 }
 
+// the same in 64 bits
+#[inline(always)]
+#[tactic(auto, unfolding(fixdec::specs::Interval::ends))]
+fn short_ends(lo: i64, hi: i64) -> Step<Span>
+    requires { lo ≤ℤ hi }
+    ensures { result ≡ spec.ends lo hi }
+{
+    const SHORT_CAP: i64 = CAP as i64;
+    if -SHORT_CAP <= lo && hi <= SHORT_CAP {
+        Step::Val(Span {
+            lo: lo as i128,
+            hi: hi as i128,
+        })
+    } else {
+        Step::Lost(Why::Range)
+    }
+}
+
+// the number, which 64 bits hold
+#[inline(always)]
+fn short(z: i128) -> i64
+    requires { InCap z }
+    ensures value { result ≡ z }
+    ensures bound { InCap result }
+{
+    z as i64
+}
+
 // both ends over 10^k, rounded outward
+#[inline(always)]
 fn outward(lo: i128, hi: i128, k: u32) -> Step<Span>
     requires power { k ≤ 15 }
     requires order { lo ≤ℤ hi }
@@ -44,78 +71,51 @@ fn outward(lo: i128, hi: i128, k: u32) -> Step<Span>
     requires high { unsigned_abs hi ≤ 10 ^ 36 }
     ensures { result ≡ spec.ends (floor lo (pos (10 ^ k))) (ceil hi (pos (10 ^ k))) }
 {
-    let divisor = pow10(k);
-    ends(floor_div(lo, divisor), ceil_div(hi, divisor))
+    ends(floor_pow10(lo, k), ceil_pow10(hi, k))
 }
 
 /// The sum, which is the same at each scale. `Lost(Range)` exactly where an end passes the cap.
+#[inline(always)]
 pub fn iv_plus(_scale: u32, a: Span, b: Span) -> Step<Span>
     requires { _scale ≤ 15 }
     ensures exact { result ≡ spec.iv_plus a b }
     ensures encloses { (u v : Frac) → IsMember _scale a u → IsMember _scale b v
         → OnVal result (λ r. IsMember _scale r (u +Q v)) }
 {
-    ends(a.lo + b.lo, a.hi + b.hi)
+    short_ends(short(a.lo) + short(b.lo), short(a.hi) + short(b.hi))
 }
 
 /// The difference, which is the same at each scale. `Lost(Range)` exactly where an end passes the
 /// cap.
+#[inline(always)]
 pub fn iv_minus(_scale: u32, a: Span, b: Span) -> Step<Span>
     requires { _scale ≤ 15 }
     ensures exact { result ≡ spec.iv_minus a b }
     ensures encloses { (u v : Frac) → IsMember _scale a u → IsMember _scale b v
         → OnVal result (λ r. IsMember _scale r (u -Q v)) }
 {
-    ends(a.lo - b.hi, a.hi - b.lo)
+    short_ends(short(a.lo) - short(b.hi), short(a.hi) - short(b.lo))
 }
 
-fn product(x: i128, y: i128) -> i128
-    requires first { InCap x }
-    requires second { InCap y }
-    ensures value { result ≡ x *ℤ y }
-    ensures bound { unsigned_abs result ≤ 10 ^ 36 }
-{
-    x * y
-}
-
-fn least(p: i128, q: i128, r: i128, s: i128) -> i128
-    ensures { result ≡ spec.least p q r s }
-{
-    p.min(q).min(r.min(s))
-}
-
-fn greatest(p: i128, q: i128, r: i128, s: i128) -> i128
-    ensures { result ≡ spec.greatest p q r s }
-{
-    p.max(q).max(r.max(s))
-}
-
+#[inline(always)]
 fn least_product(a: Span, b: Span) -> i128
     ensures value { result ≡ spec.least_product a b }
     ensures bound { unsigned_abs result ≤ 10 ^ 36 }
 {
-    least(
-        product(a.lo, b.lo),
-        product(a.lo, b.hi),
-        product(a.hi, b.lo),
-        product(a.hi, b.hi),
-    )
+    signs::least_product(short(a.lo), short(a.hi), short(b.lo), short(b.hi))
 }
 
+#[inline(always)]
 fn greatest_product(a: Span, b: Span) -> i128
     ensures value { result ≡ spec.greatest_product a b }
     ensures bound { unsigned_abs result ≤ 10 ^ 36 }
 {
-    greatest(
-        product(a.lo, b.lo),
-        product(a.lo, b.hi),
-        product(a.hi, b.lo),
-        product(a.hi, b.hi),
-    )
+    signs::greatest_product(short(a.lo), short(a.hi), short(b.lo), short(b.hi))
 }
 
 /// The product: the least and the greatest of the four products of ends, over the unit of the scale
 /// and rounded outward. `Lost(Range)` exactly where an end passes the cap.
+#[inline(always)]
 pub fn iv_times(scale: u32, a: Span, b: Span) -> Step<Span>
     requires { scale ≤ 15 }
     ensures exact { result ≡ spec.iv_times scale a b }
@@ -125,32 +125,44 @@ pub fn iv_times(scale: u32, a: Span, b: Span) -> Step<Span>
     outward(least_product(a, b), greatest_product(a, b), scale)
 }
 
+#[inline(always)]
 fn holds_zero(a: Span) -> bool
     ensures { result ≡ spec.holds_zero a }
 {
     a.lo <= 0 && 0 <= a.hi
 }
 
+#[inline(always)]
 fn least_size(a: Span) -> i128
     ensures value { result ≡ pos (spec.least_size a) }
     ensures bound { InCap result }
 {
-    if holds_zero(a) {
-        0
+    if 0 <= a.lo {
+        a.lo
+    } else if a.hi <= 0 {
+        -a.hi
     } else {
-        a.lo.abs().min(a.hi.abs())
+        0
     }
 }
 
+#[inline(always)]
 fn greatest_size(a: Span) -> i128
     ensures value { result ≡ pos (spec.greatest_size a) }
     ensures bound { InCap result }
 {
-    a.lo.abs().max(a.hi.abs())
+    if 0 <= a.lo {
+        a.hi
+    } else if a.hi <= 0 {
+        -a.lo
+    } else {
+        a.hi.max(-a.lo)
+    }
 }
 
 /// The sizes of the numbers of a span: from 0 where it holds 0, else from the smaller size of its
 /// ends, to the larger.
+#[inline(always)]
 pub fn iv_size(a: Span) -> Span
     ensures exact { result ≡ spec.iv_size a }
     ensures encloses { (scale : ℕ) (u : Frac) → IsMember scale a u
@@ -164,13 +176,14 @@ pub fn iv_size(a: Span) -> Span
 
 /// The square: the squares of the least and the greatest size, over the unit of the scale and
 /// rounded outward. `Lost(Range)` exactly where an end passes the cap.
+#[inline(always)]
 pub fn iv_square(scale: u32, a: Span) -> Step<Span>
     requires { scale ≤ 15 }
     ensures exact { result ≡ spec.iv_square scale a }
     ensures encloses { (u : Frac) → IsMember scale a u → OnVal result (λ r. IsMember scale r (u *Q u)) }
 {
-    let smallest = least_size(a);
-    let largest = greatest_size(a);
+    let smallest = short(least_size(a));
+    let largest = short(greatest_size(a));
     outward(
         product(smallest, smallest),
         product(largest, largest),
@@ -179,15 +192,17 @@ pub fn iv_square(scale: u32, a: Span) -> Step<Span>
 }
 
 // the number times 10^k
+#[inline(always)]
 fn raised(z: i128, k: u32) -> i128
     requires number { InCap z }
     requires power { k ≤ 15 }
     ensures value { result ≡ z *ℤ pos (10 ^ k) }
     ensures bound { unsigned_abs result ≤ 10 ^ 33 }
 {
-    z * pow10(k)
+    short(z) as i128 * pow10(k)
 }
 
+#[inline(always)]
 fn least_quotient(scale: u32, a: Span, b: Span) -> i128
     requires scale { scale ≤ 15 }
     requires divisor { spec.holds_zero b ≡ false }
@@ -195,14 +210,11 @@ fn least_quotient(scale: u32, a: Span, b: Span) -> i128
 {
     let lo = raised(a.lo, scale);
     let hi = raised(a.hi, scale);
-    least(
-        floor_div(lo, b.lo),
-        floor_div(lo, b.hi),
-        floor_div(hi, b.lo),
-        floor_div(hi, b.hi),
-    )
+    let (number, divisor) = signs::least_quotient(lo, hi, b.lo, b.hi);
+    floor_div(number, divisor)
 }
 
+#[inline(always)]
 fn greatest_quotient(scale: u32, a: Span, b: Span) -> i128
     requires scale { scale ≤ 15 }
     requires divisor { spec.holds_zero b ≡ false }
@@ -210,17 +222,14 @@ fn greatest_quotient(scale: u32, a: Span, b: Span) -> i128
 {
     let lo = raised(a.lo, scale);
     let hi = raised(a.hi, scale);
-    greatest(
-        ceil_div(lo, b.lo),
-        ceil_div(lo, b.hi),
-        ceil_div(hi, b.lo),
-        ceil_div(hi, b.hi),
-    )
+    let (number, divisor) = signs::greatest_quotient(lo, hi, b.lo, b.hi);
+    ceil_div(number, divisor)
 }
 
 /// The quotient: the least and the greatest of the four quotients of ends, times the unit of the
 /// scale and rounded outward. `Lost(Zero)` exactly where `b` holds 0, else `Lost(Range)` exactly
 /// where an end passes the cap.
+#[inline(always)]
 pub fn iv_over(scale: u32, a: Span, b: Span) -> Step<Span>
     requires { scale ≤ 15 }
     ensures exact { result ≡ spec.iv_over scale a b }
@@ -234,6 +243,7 @@ pub fn iv_over(scale: u32, a: Span, b: Span) -> Step<Span>
 }
 
 // the greater of z and 0, times the unit of the scale
+#[inline(always)]
 fn radicand(scale: u32, z: i128) -> u128
     requires scale { scale ≤ 15 }
     requires bound { InCap z }
@@ -245,6 +255,7 @@ fn radicand(scale: u32, z: i128) -> u128
 
 /// The root that isn't negative, of the numbers of the span that aren't, its ends rounded outward.
 /// `Empty` exactly where every number of the span is below 0.
+#[inline(always)]
 pub fn iv_root(scale: u32, a: Span) -> Step<Span>
     requires { scale ≤ 15 }
     ensures exact { result ≡ spec.iv_root scale a }
@@ -261,6 +272,7 @@ pub fn iv_root(scale: u32, a: Span) -> Step<Span>
 
 /// The span with its ends moved outward by `e` raw units, `e` from 0 to the cap. `Lost(Range)`
 /// exactly where an end passes the cap.
+#[inline(always)]
 pub fn iv_widen(a: Span, e: i128) -> Step<Span>
     requires low { pos 0 ≤ℤ e }
     requires high { InCap e }
@@ -268,11 +280,12 @@ pub fn iv_widen(a: Span, e: i128) -> Step<Span>
     ensures encloses { (scale : ℕ) (u v : Frac) → IsMember scale a u → IsNear scale e u v
         → OnVal result (λ r. IsMember scale r v) }
 {
-    ends(a.lo - e, a.hi + e)
+    short_ends(short(a.lo) - short(e), short(a.hi) + short(e))
 }
 
 /// The span times `10^-k`, `k` from -6 to 6: rounded outward where `k` is above 0, else exact.
 /// `Lost(Range)` exactly where an end passes the cap.
+#[inline(always)]
 pub fn iv_shift(a: Span, k: i32) -> Step<Span>
     requires low { negsuc 5 ≤ℤ k }
     requires high { k ≤ℤ pos 6 }
@@ -288,15 +301,19 @@ pub fn iv_shift(a: Span, k: i32) -> Step<Span>
 }
 
 /// The numbers that `a` and `s` have in common. `Empty` exactly where there is none.
+#[inline(always)]
 pub fn iv_clip(a: Span, s: Span) -> Step<Span>
     ensures exact { result ≡ spec.iv_clip a s }
     ensures encloses { (scale : ℕ) (u : Frac) → IsMember scale a u → IsMember scale s u
         → OnVal result (λ r. IsMember scale r u) }
 {
-    let lo = a.lo.max(s.lo);
-    let hi = a.hi.min(s.hi);
+    let lo = short(a.lo).max(short(s.lo));
+    let hi = short(a.hi).min(short(s.hi));
     if lo <= hi {
-        Step::Val(Span { lo, hi })
+        Step::Val(Span {
+            lo: lo as i128,
+            hi: hi as i128,
+        })
     } else {
         Step::Empty
     }

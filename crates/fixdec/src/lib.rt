@@ -4,6 +4,8 @@
 pub mod dec;
 pub mod div;
 pub mod fix;
+mod near;
 pub mod root;
 pub mod span;
 pub mod step;
+pub mod tens;

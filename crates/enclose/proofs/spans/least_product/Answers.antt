@@ -1,27 +1,28 @@
-use Rattle.std.proofs.Common.{arith}
+use Rattle.std.proofs.Common.{◌∙◌, arith}
+use Rattle.std.specs.Prelude.{◌*ℤ◌}
 use Rattle.enclose.proofs.EndsLaws.{least_at}
-use Rattle.enclose.proofs.Sizes.{carried, product_at, least_product_size}
+use Rattle.enclose.proofs.Sizes.{as_is, short_at}
 use Rattle.enclose.proofs.spans.least_product.Goals as goal
 
 pub returns-clause-value : goal.returns-clause-value
 returns-clause-value c =
-    let a = c.a.inside in
-    let b = c.b.inside in
     let i = c.a.invariant in
     let j = c.b.invariant in
-    let size = least_product_size a.lo a.hi b.lo b.hi i.1 i.2 j.1 j.2 in
+    let al = short_at c.a.inside.lo i.1 c.short.ensures.value in
+    let ah = short_at c.a.inside.hi i.2 c.short-2.ensures.value in
+    let bl = short_at c.b.inside.lo j.1 c.short-3.ensures.value in
+    let bh = short_at c.b.inside.hi j.2 c.short-4.ensures.value in
+    let size = c.least_product.ensures.bound in
     rw (← c.a.view_is, ← c.b.view_is)
-    (carried (least_at _ _ _ _ c.least.ensures
-    (product_at a.lo b.lo i.1 j.1 c.product.ensures.value)
-    (product_at a.lo b.hi i.1 j.2 c.product-2.ensures.value)
-    (product_at a.hi b.lo i.2 j.1 c.product-3.ensures.value)
-    (product_at a.hi b.hi i.2 j.2 c.product-4.ensures.value))
-    (omega arith))
+    (as_is c.least_product.result (omega arith)
+    ∙ least_at _ _ _ _ c.least_product.ensures.value (λ k. al k *ℤ bl k) (λ k. al k *ℤ bh k) (λ k. ah k *ℤ bl k) (λ k. ah k *ℤ bh k))
 
-pub returns-clause-bound : goal.returns-clause-bound
-returns-clause-bound c =
-    let a = c.a.inside in
-    let b = c.b.inside in
+pub least_product-requires : goal.least_product-requires
+least_product-requires c =
     let i = c.a.invariant in
     let j = c.b.invariant in
-    rw (returns-clause-value c, ← c.a.view_is, ← c.b.view_is) (least_product_size a.lo a.hi b.lo b.hi i.1 i.2 j.1 j.2)
+    let al = short_at c.a.inside.lo i.1 c.short.ensures.value in
+    let ah = short_at c.a.inside.hi i.2 c.short-2.ensures.value in
+    let bl = short_at c.b.inside.lo j.1 c.short-3.ensures.value in
+    let bh = short_at c.b.inside.hi j.2 c.short-4.ensures.value in
+    rw (al, ah, bl, bh) (record { first = i.0; second = j.0; first_low = i.1; first_high = i.2; second_low = j.1; second_high = j.2 })

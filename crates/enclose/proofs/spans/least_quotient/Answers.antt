@@ -1,10 +1,28 @@
-use Rattle.std.proofs.Common.{◌∙◌}
+use Rattle.std.proofs.Common.{◌∙◌, ◌^◌, arith, rules}
 use Rattle.std.specs.Int.{w128}
 use Rattle.std.proofs.lemmas.Int.{to_z-of_z}
 use Rattle.fixdec.specs.Rounding.{floor}
 use Rattle.enclose.proofs.EndsLaws.{least_at}
-use Rattle.enclose.proofs.Sizes.{small_is, raised_at}
+use Rattle.enclose.proofs.Shifts.{raised_le}
+use Rattle.enclose.proofs.Sizes.{as_is, small_is, raised_at, raised_size}
+use Rattle.enclose.specs.EndLaws.{without_zero}
 use Rattle.enclose.proofs.spans.least_quotient.Goals as goal
+
+pub least_quotient-number-requires : goal.least_quotient-number-requires
+least_quotient-number-requires c =
+    let lo = raised_at c.a.inside.lo c.args.scale c.a.invariant.1 c.requires.scale c.raised-lo.ensures.value in
+    let hi = raised_at c.a.inside.hi c.args.scale c.a.invariant.2 c.requires.scale c.raised-hi.ensures.value in
+    let bl = small_is c.b.inside.lo c.b.invariant.1 in
+    let bh = small_is c.b.inside.hi c.b.invariant.2 in
+    let i = c.a.invariant in
+    rw (lo, hi, bl, bh)
+    (record {
+      first = raised_le c.a.inside.lo c.a.inside.hi (10 ^ c.args.scale) i.0;
+      second = c.b.invariant.0;
+      low = raised_size c.a.inside.lo c.args.scale i.1 c.requires.scale;
+      high = raised_size c.a.inside.hi c.args.scale i.2 c.requires.scale;
+      divisor = without_zero (record { lo = c.b.inside.lo; hi = c.b.inside.hi }) (rw (← c.b.view_is) at c.requires.divisor);
+    })
 
 pub returns : goal.returns
 returns c =
@@ -12,9 +30,8 @@ returns c =
     let hi = raised_at c.a.inside.hi c.args.scale c.a.invariant.2 c.requires.scale c.raised-hi.ensures.value in
     let bl = small_is c.b.inside.lo c.b.invariant.1 in
     let bh = small_is c.b.inside.hi c.b.invariant.2 in
-    rw (← c.a.view_is, ← c.b.view_is, to_z-of_z w128 c.least.result (record { sfits = c.least.type_inv }))
-    (least_at _ _ _ _ c.least.ensures
-    (to_z-of_z w128 c.floor_div.result (record { sfits = c.floor_div.type_inv }) ∙ c.floor_div.ensures.value ∙ (λ i. floor (lo i) (bl i)))
-    (to_z-of_z w128 c.floor_div-2.result (record { sfits = c.floor_div-2.type_inv }) ∙ c.floor_div-2.ensures.value ∙ (λ i. floor (lo i) (bh i)))
-    (to_z-of_z w128 c.floor_div-3.result (record { sfits = c.floor_div-3.type_inv }) ∙ c.floor_div-3.ensures.value ∙ (λ i. floor (hi i) (bl i)))
-    (to_z-of_z w128 c.floor_div-4.result (record { sfits = c.floor_div-4.type_inv }) ∙ c.floor_div-4.ensures.value ∙ (λ i. floor (hi i) (bh i))))
+    let pair = c.least_quotient-number in
+    let number = as_is pair.result.0 (let h = pair.ensures.bound in omega arith) in
+    let divisor = to_z-of_z w128 pair.result.1 (search rules) in
+    rw (← c.a.view_is, ← c.b.view_is, to_z-of_z w128 c.floor_div.result (record { sfits = c.floor_div.type_inv }))
+    (c.floor_div.ensures.value ∙ (λ k. floor (number k) (divisor k)) ∙ least_at _ _ _ _ pair.ensures.value (λ k. floor (lo k) (bl k)) (λ k. floor (lo k) (bh k)) (λ k. floor (hi k) (bl k)) (λ k. floor (hi k) (bh k)))
