@@ -7,13 +7,13 @@ use Rattle.examples.specs.ComputedAspheres.{SphericalHeight, BentHeight, PastZon
 use Rattle.examples.specs.ComputedRows.{ones, tenths}
 use Rattle.examples.specs.Worked.{level_ray}
 use Rattle.lensmodel.specs.Rows.Sag.{sag_rows}
-use Rattle.lensmodel.specs.Rows.SlopeRounds.{round_rows}
+use Rattle.lensmodel.specs.Rows.SlopeRounds.{round_rows, next_rows}
 use Rattle.examples.proofs.ComputedRows.{opened, row_by_trying}
 use Rattle.examples.proofs.TriedCells.{asphere_by_trying, asphere_row_by_trying}
 
 -- what is opened to compute the outcome of an even asphere
 unfoldable pub opened_aspheres : ℕ
-unfolding opened operations iv_size zone norm least_power sag_rows round_rows
+unfolding opened operations iv_size zone norm least_power sag_rows round_rows next_rows
 opened_aspheres = 0
 
 pub spherical_height : SphericalHeight

@@ -11,9 +11,10 @@ use Rattle.examples.specs.ComputedFolds.{folded_setup, skew_ray}
 use Rattle.examples.specs.ComputedRounds.{BentParts, FrontParts, SteepRounds, first_parts, steep_asphere}
 use Rattle.examples.specs.ComputedRows.{ones, tenths}
 use Rattle.examples.specs.Worked.{level_ray}
-use Rattle.lensmodel.specs.Rows.Crossing.{foot_rows}
+use Rattle.lensmodel.specs.Rows.Cells.{window_row, cell_rows, pruned}
+use Rattle.lensmodel.specs.Rows.Crossing.{arrival_rows}
 use Rattle.lensmodel.specs.Rows.Preparation.{preparation_rows}
-use Rattle.lensmodel.specs.Rows.SlopeRounds.{window_row, hulls, zone2_of, round_rows}
+use Rattle.lensmodel.specs.Rows.SlopeRounds.{hulls, line_hulls, zone2_of, next_rows}
 use Rattle.lensmodel.specs.Rows.Start.{start_rows}
 use Rattle.lensmodel.specs.Setup.Values.{zero_decimal}
 use Rattle.lensmodel.specs.declared.launch.Launch.{Launch}
@@ -28,15 +29,15 @@ parts_by : Operations Ends → Setup → Launch → Step (List Ends)
 parts_by o s ray = do
   incoming ← start_rows o 6 ray (pos 1)
   face ← preparation_rows o 6 s (pos 1) 0
-  foot ← foot_rows o 6 face incoming (pos 1)
-  w0 ← window_row 6 (hulls o 6 face) (zone2_of o 6 face) (pos 1)
-  w1 ← pruned_by o 6 (hulls o 6 face) (zone2_of o 6 face) foot.x0 foot.y0 foot.p foot.q (pos 1) w0
-  w2 ← pruned_by o 6 (hulls o 6 face) (zone2_of o 6 face) foot.x0 foot.y0 foot.p foot.q (pos 1) w1
-  z ← round_rows o 6 face foot.x0 foot.y0 foot.p foot.q (pos 1) w2
+  arrival ← arrival_rows o face incoming (pos 1)
+  w0 ← window_row 6 (hulls o face) (zone2_of o face) (pos 1)
+  w1 ← pruned_by o 6 (hulls o face) (zone2_of o face) (line_hulls o arrival.line) (pos 1) w0
+  w2 ← pruned_by o 6 (hulls o face) (zone2_of o face) (line_hulls o arrival.line) (pos 1) w1
+  z ← next_rows o 6 face arrival.line (pos 1) w2
   Val (w0 ∷ w1 ∷ w2 ∷ z ∷ [])
 
 parts_by_trying : (s : Setup) (ray : Launch) (x : Step (List Ends)) → parts_by (operations_by tried_root 6) s ray ≡ x → first_parts s ray ≡ x
-unfolding parts_by
+unfolding parts_by pruned cell_rows
 parts_by_trying s ray x h = subst (λ o. parts_by (o 6) s ray ≡ x) same_operations h
 
 pub bent_parts : BentParts

@@ -6,15 +6,15 @@ use Rattle.fixdec.specs.Interval.{ends, iv_plus, iv_minus, iv_times, iv_square, 
 use Rattle.fixdec.specs.IntervalOperations.{operations}
 use Rattle.fixdec.specs.Operations.{Operations}
 use Rattle.fixdec.specs.Scaled.{dec_floor, dec_ceil, dec_span, dec_shifted}
-use Rattle.lensmodel.specs.Rows.Bending.{bend_rows, stay_rows}
+use Rattle.lensmodel.specs.Rows.Bending.{reflection_rows, stay_rows, normal_rows, incidence_rows, refraction_rows, bend_rows}
 use Rattle.examples.specs.ComputedRows.{SlantedPlane, SphereHeight, GlassAxis, MirrorFocus, PastSphere, BehindEquator, TotalReflection, OutsideRim, InsideRim, FanRay, AimedRay, row_in_intervals, ones, tenths, ray_sloped, plane_before, air_sphere_setup, bounded_by}
 use Rattle.examples.specs.Worked.{level_ray, mirror_setup, glass_setup, rim_setup, plane_setup, slanted_ray, sphere_setup, axis_ray}
 use Rattle.examples.specs.ComputedScales.{RimTie, WideBeforeUndecided, VignettedBeforeWide, WideAtFirst, FinerPasses, SphereEdge, GrazingRay, FarImage, FarthestImage, FinestResidual, LessFarImage, FartherImage, FinestPasses, CoarseResidual, FineResidual}
-use Rattle.lensmodel.specs.Rows.Crossing.{meet_standard_rows}
-use Rattle.lensmodel.specs.Rows.Hit.{hit_rows}
+use Rattle.lensmodel.specs.Rows.Crossing.{arrival_rows, meet_standard_rows}
+use Rattle.lensmodel.specs.Rows.Hit.{meet_rows, hit_rows}
 use Rattle.lensmodel.specs.Rows.Index.{index_rows}
 use Rattle.lensmodel.specs.Rows.Outcome.{Outcome, outcome_at, row_of, walked}
-use Rattle.lensmodel.specs.Rows.Preparation.{preparation_rows}
+use Rattle.lensmodel.specs.Rows.Preparation.{preparation_by, preparation_rows}
 use Rattle.lensmodel.specs.Rows.Start.{start_rows}
 use Rattle.lensmodel.specs.Setup.Values.{zero_decimal}
 use Rattle.lensmodel.specs.declared.launch.Launch.{Launch}
@@ -42,7 +42,7 @@ row_by_trying s ray x h = subst (λ o. row_by o s ray ≡ x) same_operations h
 
 -- what is opened to compute an outcome
 unfoldable pub opened : ℕ
-unfolding outcome_at walked start_rows preparation_rows hit_rows meet_standard_rows bend_rows stay_rows index_rows ends iv_plus iv_minus iv_times iv_square iv_over iv_widen iv_shift iv_clip dec_floor dec_ceil dec_span dec_shifted row_by
+unfolding outcome_at walked start_rows preparation_by preparation_rows arrival_rows meet_standard_rows meet_rows hit_rows reflection_rows stay_rows normal_rows incidence_rows refraction_rows bend_rows index_rows ends iv_plus iv_minus iv_times iv_square iv_over iv_widen iv_shift iv_clip dec_floor dec_ceil dec_span dec_shifted row_by
 opened = 0
 
 pub slanted_plane : SlantedPlane

@@ -9,9 +9,10 @@ use Rattle.examples.specs.ComputedAspheres.{asphere_setup, bent}
 use Rattle.examples.specs.ComputedFolds.{folded_setup, skew_ray, decimal}
 use Rattle.examples.specs.ComputedRows.{Gives, place, headed, about, ones, tenths}
 use Rattle.examples.specs.Worked.{level_ray}
-use Rattle.lensmodel.specs.Rows.Crossing.{foot_rows}
+use Rattle.lensmodel.specs.Rows.Cells.{window_row, pruned}
+use Rattle.lensmodel.specs.Rows.Crossing.{arrival_rows}
 use Rattle.lensmodel.specs.Rows.Preparation.{preparation_rows}
-use Rattle.lensmodel.specs.Rows.SlopeRounds.{window_row, pruned, hulls, zone2_of, round_rows}
+use Rattle.lensmodel.specs.Rows.SlopeRounds.{hulls, line_hulls, zone2_of, next_rows}
 use Rattle.lensmodel.specs.Rows.Start.{start_rows}
 use Rattle.lensmodel.specs.Setup.Values.{zero_decimal, plane}
 use Rattle.examples.specs.WorkedRow.{span}
@@ -27,11 +28,11 @@ abbrev pub first_parts : Setup → Launch → Step (List Ends)
 first_parts s ray = do
   incoming ← start_rows (operations 6) 6 ray (pos 1)
   face ← preparation_rows (operations 6) 6 s (pos 1) 0
-  foot ← foot_rows (operations 6) 6 face incoming (pos 1)
-  w0 ← window_row 6 (hulls (operations 6) 6 face) (zone2_of (operations 6) 6 face) (pos 1)
-  w1 ← pruned 6 (hulls (operations 6) 6 face) (zone2_of (operations 6) 6 face) foot.x0 foot.y0 foot.p foot.q (pos 1) w0
-  w2 ← pruned 6 (hulls (operations 6) 6 face) (zone2_of (operations 6) 6 face) foot.x0 foot.y0 foot.p foot.q (pos 1) w1
-  z ← round_rows (operations 6) 6 face foot.x0 foot.y0 foot.p foot.q (pos 1) w2
+  arrival ← arrival_rows (operations 6) face incoming (pos 1)
+  w0 ← window_row 6 (hulls (operations 6) face) (zone2_of (operations 6) face) (pos 1)
+  w1 ← pruned 6 (hulls (operations 6) face) (zone2_of (operations 6) face) (line_hulls (operations 6) arrival.line) (pos 1) w0
+  w2 ← pruned 6 (hulls (operations 6) face) (zone2_of (operations 6) face) (line_hulls (operations 6) arrival.line) (pos 1) w1
+  z ← next_rows (operations 6) 6 face arrival.line (pos 1) w2
   Val (w0 ∷ w1 ∷ w2 ∷ z ∷ [])
 
 -- of the bent asphere and the ray at the height 6
