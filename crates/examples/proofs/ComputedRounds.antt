@@ -21,8 +21,8 @@ use Rattle.lensmodel.specs.declared.launch.Launch.{Launch}
 use Rattle.lensmodel.specs.declared.launch.Launch.TheVariants.{Plain}
 use Rattle.lensmodel.specs.declared.setup.Setup.{Setup}
 use Rattle.examples.proofs.ComputedAspheres.{opened_aspheres}
-use Rattle.examples.proofs.TriedCells.{pruned_by, asphere_by_trying}
 use Rattle.examples.proofs.TriedRoots.{operations_by, tried_root, same_operations}
+use Rattle.examples.proofs.TriedCells.{pruned_by, row_by_trying}
 
 -- these parts in an arithmetic that is given
 parts_by : Operations Ends → Setup → Launch → Step (List Ends)
@@ -50,4 +50,4 @@ front_parts = parts_by_trying folded_setup skew_ray _ refl
 
 pub steep_rounds : SteepRounds
 unfolding opened_aspheres
-steep_rounds = asphere_by_trying 6 (record (asphere_setup steep_asphere) { width = ones 1 }) (Plain zero_decimal (tenths 21) zero_decimal (tenths 12)) _ refl
+steep_rounds = row_by_trying (record (asphere_setup steep_asphere) { width = ones 1 }) (Plain zero_decimal (tenths 21) zero_decimal (tenths 12)) _ refl refl

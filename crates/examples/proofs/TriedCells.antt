@@ -1,7 +1,7 @@
--- Where a line meets an even asphere, with the cells' arithmetic as an argument.
+-- Rows with the cells' arithmetic as an argument: they may be computed with roots that are tried.
 use Rattle.std.proofs.Common.{◌≡◌, ℕ, zero, suc, [], ap, sym, subst, ◌∙◌, refl}
 use Rattle.std.proofs.Math.Path.{fun_ext}
-use Rattle.std.specs.Prelude.{ℤ, None}
+use Rattle.std.specs.Prelude.{ℤ, Some, None}
 use Rattle.fixdec.specs.Ends.{Ends}
 use Rattle.fixdec.specs.Form.{linear_operations}
 use Rattle.fixdec.specs.IntervalOperations.{operations}
@@ -10,23 +10,25 @@ use Rattle.fixdec.specs.Steps.{◌>>=◌}
 use Rattle.fixdec.specs.declared.step.Step.{Step}
 use Rattle.fixdec.specs.declared.step.Step.TheVariants.{Val, Empty, Lost}
 use Rattle.fixdec.specs.declared.step.Why.TheVariants.{Root}
-use Rattle.examples.specs.ComputedRows.{row_in_intervals}
 use Rattle.lensmodel.specs.Rows.Constants.{residual_units}
 use Rattle.lensmodel.specs.Rows.Cells.{window_row, is_kept, cells, kept_hull, cell_rows, pruned}
 use Rattle.lensmodel.specs.Rows.Crossing.{Met, Line, arrival_rows, along_row, meet_standard_rows}
 use Rattle.lensmodel.specs.Rows.Hit.{meet_by, meet_rows, point_rows, hit_rows}
 use Rattle.lensmodel.specs.Rows.Outcome.{Outcome, Walked, ends_with, at_hit, at_prepared, walk, started, walked, word_of, places_of, outcome_at, row_of}
 use Rattle.lensmodel.specs.Rows.Preparation.{Prepared, preparation_rows}
+use Rattle.lensmodel.specs.Rows.Ray.{as_row, row_by, row_with, row}
 use Rattle.lensmodel.specs.Rows.Sag.{sag_rows}
 use Rattle.lensmodel.specs.Rows.SlopeRounds.{hulls, line_hulls, zone2_of, next_rows, narrowed, pruned_window, last_window, last_answer, meet_asphere_rows}
 use Rattle.lensmodel.specs.Rows.Spans.{up_to}
 use Rattle.lensmodel.specs.Rows.Start.{Incoming, start_rows}
 use Rattle.lensmodel.specs.Setup.Values.{image}
 use Rattle.lensmodel.specs.declared.launch.Launch.{Launch}
+use Rattle.lensmodel.specs.declared.row.Row.{Row}
 use Rattle.lensmodel.specs.declared.row.Word.TheVariants as word
 use Rattle.lensmodel.specs.declared.setup.Setup.{Setup}
 use Rattle.lensmodel.specs.declared.surface.SurfaceKind.{SurfaceKind}
 use Rattle.lensmodel.specs.declared.surface.SurfaceKind.TheVariants.{Standard, EvenAsph}
+use Rattle.lensmodel.specs.declared.tolerance.TolBox.{TolBox}
 use Rattle.examples.proofs.TriedForms.{linear_by, same_linear}
 use Rattle.examples.proofs.TriedRoots.{operations_by, tried_root, same_operations}
 
@@ -135,34 +137,41 @@ same_outcome : {A : Type 0} (o : Operations A) (scale : ℕ) (s : Setup) (ray : 
 unfolding outcome_at walked
 same_outcome o scale s ray = ap (finished scale s) (same_start o scale s (residual_units scale s.res) (start_rows o scale ray (residual_units scale s.res)))
 
--- an outcome may be computed with roots that are tried in the cells too
-pub asphere_by_trying : (scale : ℕ) (s : Setup) (ray : Launch) (x : Outcome)
-    → outcome_by (hit_by (operations_by tried_root scale) (operations_by tried_root scale) scale) (operations_by tried_root scale) scale s ray ≡ x
-    → outcome_at (operations scale) scale s ray ≡ x
-asphere_by_trying scale s ray x h =
-    let hits : hit_by (operations scale) (operations scale) scale ≡ hit_rows (operations scale) scale =
-    fun_ext (λ face. fun_ext (λ ray. fun_ext (λ e. same_hit (operations scale) scale face ray e))) in
-    sym (ap (λ hit. outcome_by hit (operations scale) scale s ray) hits ∙ same_outcome (operations scale) scale s ray)
-    ∙ subst (λ o. outcome_by (hit_by (o scale) (o scale) scale) (o scale) scale s ray ≡ x) same_operations h
+-- ---- a row with the cells' arithmetic as an argument
+abbrev pub outcome_with_cells : {A : Type 0} → (ℕ → Operations Ends) → (ℕ → Operations A) → Setup → Launch → ℕ → Outcome
+outcome_with_cells c o s ray scale = outcome_by (hit_by (c scale) (o scale) scale) (o scale) scale s ray
 
-pub asphere_forms_by_trying : (scale : ℕ) (s : Setup) (ray : Launch) (x : Outcome)
-    → outcome_by (hit_by (operations_by tried_root scale) (linear_by tried_root scale) scale) (linear_by tried_root scale) scale s ray ≡ x
-    → outcome_at (linear_operations scale) scale s ray ≡ x
-asphere_forms_by_trying scale s ray x h =
-    let hits : hit_by (operations scale) (linear_operations scale) scale ≡ hit_rows (linear_operations scale) scale =
-    fun_ext (λ face. fun_ext (λ ray. fun_ext (λ e. same_hit (linear_operations scale) scale face ray e))) in
-    sym (ap (λ hit. outcome_by hit (linear_operations scale) scale s ray) hits ∙ same_outcome (linear_operations scale) scale s ray)
-    ∙ subst (λ c. outcome_by (hit_by (c scale) (linear_operations scale) scale) (linear_operations scale) scale s ray ≡ x) same_operations
-    (subst (λ o. outcome_by (hit_by (operations_by tried_root scale) (o scale) scale) (o scale) scale s ray ≡ x) same_linear h)
+unfoldable pub row_with_cells : {A : Type 0} → (ℕ → Operations Ends) → (ℕ → Operations A) → Setup → Launch → Row
+row_with_cells c o s ray =
+    as_row (row_of (outcome_with_cells c o s ray 6) (outcome_with_cells c o s ray 9) (outcome_with_cells c o s ray 12) (outcome_with_cells c o s ray 15))
 
--- the row of a ray from such outcomes
-abbrev tried_at : Setup → Launch → ℕ → Outcome
-tried_at s ray scale = outcome_by (hit_by (operations_by tried_root scale) (operations_by tried_root scale) scale) (operations_by tried_root scale) scale s ray
+same_at : {A : Type 0} (o : ℕ → Operations A) (s : Setup) (ray : Launch) (scale : ℕ) → outcome_with_cells operations o s ray scale ≡ outcome_at (o scale) scale s ray
+same_at o s ray scale =
+    ap (λ hit. outcome_by hit (o scale) scale s ray) (fun_ext (λ face. fun_ext (λ ray. fun_ext (λ e. same_hit (o scale) scale face ray e))))
+    ∙ same_outcome (o scale) scale s ray
 
-abbrev pub row_of_tried : Setup → Launch → Outcome
-row_of_tried s ray = row_of (tried_at s ray 6) (tried_at s ray 9) (tried_at s ray 12) (tried_at s ray 15)
+same_row : {A : Type 0} (o : ℕ → Operations A) (s : Setup) (ray : Launch) → row_with_cells operations o s ray ≡ row_by o s ray
+unfolding row_with_cells
+same_row o s ray = ap (λ at. as_row (row_of (at 6) (at 9) (at 12) (at 15))) (fun_ext (same_at o s ray))
 
-pub asphere_row_by_trying : (s : Setup) (ray : Launch) (x : Outcome) → row_of_tried s ray ≡ x → row_in_intervals s ray ≡ x
-asphere_row_by_trying s ray x h =
-    let same : (scale : ℕ) → outcome_at (operations scale) scale s ray ≡ tried_at s ray scale = λ scale. asphere_by_trying scale s ray _ refl in
-    ap (λ at. row_of (at 6) (at 9) (at 12) (at 15)) (fun_ext same) ∙ h
+-- a row may be computed with roots that are tried: without a box
+pub row_by_trying : (s : Setup) (ray : Launch) (x : Row) → s.toler ≡ None
+    → row_with_cells (operations_by tried_root) (operations_by tried_root) s ray ≡ x → row s ray ≡ x
+unfolding row
+row_by_trying s ray x plain h =
+    ap (λ t. row_with t s ray) plain ∙ sym (same_row operations s ray) ∙ subst (λ o. row_with_cells o o s ray ≡ x) same_operations h
+
+-- and with one
+pub boxed_row_by_trying : {box : TolBox} (s : Setup) (ray : Launch) (x : Row) → s.toler ≡ Some box
+    → row_with_cells (operations_by tried_root) (linear_by tried_root) s ray ≡ x → row s ray ≡ x
+unfolding row
+boxed_row_by_trying s ray x boxed h =
+    ap (λ t. row_with t s ray) boxed ∙ sym (same_row linear_operations s ray)
+    ∙ subst (λ c. row_with_cells c linear_operations s ray ≡ x) same_operations
+    (subst (λ o. row_with_cells (operations_by tried_root) o s ray ≡ x) same_linear h)
+
+-- so may an outcome at one scale
+pub outcome_by_trying : (scale : ℕ) (s : Setup) (ray : Launch) (x : Outcome)
+    → outcome_with_cells (operations_by tried_root) (operations_by tried_root) s ray scale ≡ x → outcome_at (operations scale) scale s ray ≡ x
+outcome_by_trying scale s ray x h =
+    sym (same_at operations s ray scale) ∙ subst (λ o. outcome_with_cells o o s ray scale ≡ x) same_operations h

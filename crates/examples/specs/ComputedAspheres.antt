@@ -1,8 +1,10 @@
 -- Rows of worked even aspheres in interval arithmetic, number for number.
 use Rattle.std.specs.Prelude.{◌≡◌, pos, negsuc, [], ◌∷◌, Some}
 use Rattle.fixdec.specs.declared.step.Why.TheVariants.{Root, Range}
-use Rattle.examples.specs.ComputedRows.{Gives, row_in_intervals, outcome, place, headed, about, ones, tenths}
+use Rattle.examples.specs.ComputedRows.{Gives, place, headed, about, ones, tenths}
 use Rattle.examples.specs.Worked.{level_ray, far_object, setup_of}
+use Rattle.fixdec.specs.IntervalOperations.{operations}
+use Rattle.lensmodel.specs.Rows.Outcome.{outcome_at}
 use Rattle.lensmodel.specs.Setup.Values.{zero_decimal, plane}
 use Rattle.examples.specs.WorkedRow.{span}
 use Rattle.lensmodel.specs.declared.glass.Medium.TheVariants.{Air}
@@ -62,7 +64,7 @@ steep_ray = Plain zero_decimal (record { mant = pos 375; exp = negsuc 2 }) zero_
 
 -- its window makes squares past the cap
 abbrev pub BowlLost : Type 0
-BowlLost = row_in_intervals (asphere_setup bowl) steep_ray ≡ outcome 15 (Lost 1 Range) []
+BowlLost = Gives 15 (asphere_setup bowl) steep_ray (Lost 1 Range) []
 
 -- the same bowl as a paraboloid: the ray crosses it at the height 1/2, where the sag is 0.025
 abbrev pub paraboloid : Surface
@@ -70,12 +72,11 @@ paraboloid = record plane { curv = tenths 2; conic = record { mant = negsuc 0; e
 
 abbrev pub BowlAsConic : Type 0
 BowlAsConic =
-    row_in_intervals (asphere_setup paraboloid) steep_ray
-    ≡ outcome 9 Passes
+    Gives 9 (asphere_setup paraboloid) steep_ray Passes
     (headed (place (span (pos 249999970) (pos 250000032)) (about 3) (span (pos 499999970) (pos 500000030)) (span (pos 24999996) (pos 25000004)) (span (pos 127475460) (pos 127475516))) (about 1) (span (pos 980580664) (pos 980580686)) (span (pos 196116133) (pos 196116137))
     ∷ place (span (pos 415140604951) (pos 415140645051)) (about 29) (span (pos 20374999508) (pos 20375000492)) (about 1) (span (pos 20396077802) (pos 20396078336))
     ∷ [])
 
 -- at scale 12 its squares are within the cap, and no slope round tells the two crossings apart
 abbrev pub BowlRoot : Type 0
-BowlRoot = Gives 12 (asphere_setup bowl) steep_ray (Lost 1 Root) []
+BowlRoot = outcome_at (operations 12) 12 (asphere_setup bowl) steep_ray ≡ record { scale = 12; word = Lost 1 Root; places = [] }

@@ -1,7 +1,6 @@
 -- A ray folded twice: through an even asphere into glass, back by a mirror in the glass, out of it, and forth by a mirror in air.
 use Rattle.std.specs.Prelude.{ℕ, ℤ, pos, negsuc, neg_ℤ, true, [], ◌∷◌, List, Some}
 use Rattle.fixdec.specs.Decimal.{Decimal}
-use Rattle.examples.specs.ComputedBoxes.{GivesInForms}
 use Rattle.examples.specs.ComputedRows.{Gives, place, headed, about, ones, tenths}
 use Rattle.lensmodel.specs.Setup.Values.{plane}
 use Rattle.examples.specs.Worked.{flat_name, flat_glass, far_object, setup_of}
@@ -88,7 +87,7 @@ folded_box =
 -- the row at scale 6 with this box
 abbrev pub FoldedBox : Type 0
 FoldedBox =
-    GivesInForms 6 (record folded_setup { toler = Some (record { list = record { items = folded_box } }) }) skew_ray Passes
+    Gives 6 (record folded_setup { toler = Some (record { list = record { items = folded_box } }) }) skew_ray Passes
     (headed (place (span (pos 25141806) (pos 25143308)) (span (pos 2985771) (pos 2985913)) (span (pos 4028178) (pos 4028448)) (span (pos 281850) (pos 284432)) (span (pos 283600) (pos 286210))) (span (negsuc 57835) (negsuc 57539)) (span (pos 32849) (pos 33389)) (span (pos 997630) (pos 997938))
     ∷ headed (place (span (pos 24968543) (pos 24984465)) (span (pos 2841696) (pos 2842576)) (span (pos 4110148) (pos 4111474)) (span (negsuc 231436) (negsuc 231244)) (span (pos 4017668) (pos 4025256))) (span (negsuc 164982) (negsuc 164450)) (span (negsuc 122106) (negsuc 121260)) (span (negsuc 979502) (negsuc 978208))
     ∷ headed (place (span (pos 20346914) (pos 20396380)) (span (pos 2426290) (pos 2429600)) (span (pos 3802638) (pos 3807022)) (span (pos 306888) (pos 307660)) (span (pos 7784351) (pos 7802229))) (span (negsuc 287933) (negsuc 286077)) (span (negsuc 246385) (negsuc 243813)) (span (negsuc 930299) (negsuc 922023))

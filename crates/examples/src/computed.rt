@@ -8,7 +8,7 @@ ghost use Rattle.examples.specs.ComputedFolds.{FoldedRay, FoldedBox};
 ghost use Rattle.examples.specs.ComputedForms.{PlaneInForms, AsphereInForms, OutsideInForms, ReflectedInForms, VignettedInForms, TieInForms, FormDifference, FormQuotient, FormProduct};
 ghost use Rattle.examples.specs.ComputedRounds.{BentParts, FrontParts, SteepRounds};
 ghost use Rattle.examples.specs.ComputedRows.{SlantedPlane, SphereHeight, GlassAxis, MirrorFocus, PastSphere, BehindEquator, TotalReflection, OutsideRim, InsideRim, FanRay, AimedRay};
-ghost use Rattle.examples.specs.ComputedScales.{RimTie, WideBeforeUndecided, VignettedBeforeWide, WideAtFirst, FinerPasses, SphereEdge, GrazingRay, FarImage, FarthestImage, FinestResidual, LessFarImage, FartherImage, FinestPasses, CoarseResidual, FineResidual};
+ghost use Rattle.examples.specs.ComputedScales.{RimTie, WideBeforeUndecided, VignettedBeforeWide, FinerPasses, SphereEdge, GrazingRay, FarImage, FarthestImage, FinestResidual, LessFarImage, FartherImage, FinestPasses, CoarseResidual, FineResidual};
 
 /// Rays that reach the image: through a plane, through a sphere in air, along the axis of a sphere
 /// of glass, and by a mirror.
@@ -46,7 +46,6 @@ pub fn rims_decide()
 pub fn words_in_order()
     ensures vignetted { VignettedBeforeWide }
     ensures wide { WideBeforeUndecided }
-    ensures first { WideAtFirst }
     ensures finer { FinerPasses }
 {}
 
