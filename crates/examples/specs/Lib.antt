@@ -7,6 +7,7 @@ pub mod ComputedForms
 pub mod ComputedRounds
 pub mod ComputedRows
 pub mod ComputedScales
+pub mod DoubletExamples
 pub mod Exchange
 pub mod JoiningExamples
 pub mod LaunchExamples

@@ -1,6 +1,7 @@
 //! Small lenses, jobs and spots on which the definitions are worked out: each function does
 //! nothing, and its contract says what the definitions give.
 
+ghost use Rattle.examples.specs.DoubletExamples.{DoubletFirst, StopAtObject, StopAtImage, ManginFirst, DoubletSums, HighSums, ManginSums};
 ghost use Rattle.examples.specs.JoiningExamples.{Wavelengths, Glasses, Tolerances, WideTolerance};
 ghost use Rattle.examples.specs.LaunchExamples.{FanOfTwo, GridOfOne};
 ghost use Rattle.examples.specs.LaunchLaws.{CountIs, FanAlongY, FanAlongX, GridAt};
@@ -59,17 +60,25 @@ pub fn joined_setups()
     ensures wide { WideTolerance }
 {}
 
-/// First-order values of a plane, of a sphere with glass behind it, and of a mirror.
+/// First-order values of a plane, of a sphere with glass behind it, of a mirror, and of two
+/// surfaces: with the stop at the second, at the object and at the image.
 pub fn first_order_values()
     ensures plane { PlaneInAir }
     ensures sphere { GlassSphere }
     ensures mirror { MirrorFocus }
+    ensures doublet { DoubletFirst }
+    ensures no_stop { StopAtObject }
+    ensures last_stop { StopAtImage }
+    ensures mangin { ManginFirst }
 {}
 
-/// Seidel sums of a sphere with glass behind it, and of a paraboloid that reflects.
+/// Seidel sums of a sphere with glass behind it, of a paraboloid that reflects, and of two surfaces.
 pub fn seidel_sums()
     ensures sphere { SphereSums }
     ensures paraboloid { ParaboloidSums }
+    ensures doublet { DoubletSums }
+    ensures high { HighSums }
+    ensures mangin { ManginSums }
 {}
 
 /// Statistics of a grid, of rows at three scales, and of a row whose square passes the cap.
