@@ -1,9 +1,10 @@
 -- Worked aspheres, by computing.
 use Rattle.std.proofs.Common.{ℕ, refl}
+use Rattle.std.specs.Prelude.{pos, negsuc}
 use Rattle.fixdec.specs.Interval.{iv_size}
 use Rattle.fixdec.specs.IntervalOperations.{operations}
 use Rattle.fixdec.specs.Zone.{zone, norm, least_power}
-use Rattle.examples.specs.ComputedAspheres.{SphericalHeight, BentHeight, PastZone, AtZone, BowlLost, BowlRoot, BowlAsConic, spherical, bent, bowl, paraboloid, steep_ray, asphere_setup}
+use Rattle.examples.specs.ComputedAspheres.{SphericalHeight, BentHeight, PastZone, AtZone, BowlLost, BowlRoot, BowlAsConic, LastCell, ConicAsphere, wide_bowl, far_conic, into_glass, spherical, bent, bowl, paraboloid, steep_ray, asphere_setup}
 use Rattle.examples.specs.ComputedRows.{ones, tenths}
 use Rattle.examples.specs.Worked.{level_ray}
 use Rattle.lensmodel.specs.Rows.Sag.{sag_rows}
@@ -43,3 +44,11 @@ bowl_as_conic = row_by_trying (asphere_setup paraboloid) steep_ray _ refl refl
 pub bowl_root : BowlRoot
 unfolding opened_aspheres
 bowl_root = outcome_by_trying 12 (asphere_setup bowl) steep_ray _ refl
+
+pub last_cell : LastCell
+unfolding opened_aspheres
+last_cell = row_by_trying (asphere_setup wide_bowl) (level_ray (record { mant = pos 989; exp = negsuc 1 })) _ refl refl
+
+pub conic_asphere : ConicAsphere
+unfolding opened_aspheres
+conic_asphere = row_by_trying (into_glass far_conic) (level_ray (ones 3)) _ refl refl

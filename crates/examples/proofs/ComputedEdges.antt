@@ -1,9 +1,9 @@
 -- Rows where a case of a definition turns, by computing.
 use Rattle.std.proofs.Common.{refl}
 use Rattle.examples.specs.ComputedBoxes.{boxed}
-use Rattle.examples.specs.ComputedEdges.{BoundMet, BoundPassed, ImageTie, ImageRim, EqualGlass, EqualInBox, TolerantBefore, TolerantBehind, millionths, rimmed_image, inside_glass, index_tolerance}
+use Rattle.examples.specs.ComputedEdges.{BoundMet, BoundPassed, ImageTie, ImageRim, EqualGlass, EqualInBox, TolerantBefore, TolerantBehind, RimLeastMet, RimLeastPassed, RimGreatestMet, millionths, rimmed_image, rim_half, inside_glass, index_tolerance}
 use Rattle.examples.specs.ComputedRows.{ones, tenths}
-use Rattle.examples.specs.Worked.{plane_setup, slanted_ray}
+use Rattle.examples.specs.Worked.{plane_setup, slanted_ray, level_ray}
 use Rattle.lensmodel.specs.declared.tolerance.TolKind.TheVariants.{Curv}
 use Rattle.examples.proofs.ComputedBoxes.{opened_forms}
 use Rattle.examples.proofs.ComputedRows.{opened}
@@ -40,3 +40,15 @@ tolerant_before = boxed_row_by_trying (boxed (index_tolerance 0) (ones 1) inside
 pub tolerant_behind : TolerantBehind
 unfolding opened_forms
 tolerant_behind = boxed_row_by_trying (boxed (index_tolerance 1) (ones 1) inside_glass) slanted_ray _ refl refl
+
+pub rim_least_met : RimLeastMet
+unfolding opened
+rim_least_met = row_by_trying rim_half (level_ray (millionths 499995)) _ refl refl
+
+pub rim_least_passed : RimLeastPassed
+unfolding opened
+rim_least_passed = row_by_trying rim_half (level_ray (millionths 499996)) _ refl refl
+
+pub rim_greatest_met : RimGreatestMet
+unfolding opened
+rim_greatest_met = row_by_trying rim_half (level_ray (millionths 500005)) _ refl refl

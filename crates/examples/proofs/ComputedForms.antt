@@ -1,12 +1,17 @@
 -- Words in linear arithmetic, by computing.
-use Rattle.std.proofs.Common.{refl}
+use Rattle.std.proofs.Common.{[], refl}
+use Rattle.std.specs.Prelude.{Some}
 use Rattle.examples.specs.ComputedAspheres.{asphere_setup, bent}
-use Rattle.examples.specs.ComputedForms.{PlaneInForms, AsphereInForms, OutsideInForms, ReflectedInForms, VignettedInForms, TieInForms, FormDifference, FormQuotient, FormProduct, rigid}
+use Rattle.examples.specs.ComputedForms.{EmptyBox, PlaneInForms, AsphereInForms, OutsideInForms, ReflectedInForms, VignettedInForms, TieInForms, FormDifference, FormQuotient, FormProduct, rigid}
 use Rattle.examples.specs.ComputedRows.{ones, tenths, ray_sloped}
 use Rattle.examples.specs.Worked.{level_ray, rim_setup, glass_setup, plane_setup, sphere_setup, slanted_ray}
 use Rattle.examples.proofs.ComputedAspheres.{opened_aspheres}
 use Rattle.examples.proofs.ComputedBoxes.{opened_forms}
 use Rattle.examples.proofs.TriedCells.{boxed_row_by_trying}
+
+pub empty_box : EmptyBox
+unfolding opened_forms
+empty_box = boxed_row_by_trying (record plane_setup { toler = Some (record { list = record { items = [] } }) }) slanted_ray _ refl refl
 
 pub plane_in_forms : PlaneInForms
 unfolding opened_forms

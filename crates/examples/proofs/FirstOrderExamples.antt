@@ -1,5 +1,5 @@
 -- First-order values and Seidel sums of small lenses, by computing.
-use Rattle.std.proofs.Common.{◌≡◌, ℕ, subst, refl}
+use Rattle.std.proofs.Common.{◌≡◌, ℕ, ap, subst, refl}
 use Rattle.std.specs.Prelude.{pos, negsuc}
 use Rattle.examples.specs.DoubletExamples.{DoubletFirst, StopAtObject, StopAtImage, ManginFirst, DoubletSums, HighSums, ManginSums, doublet, mangin}
 use Rattle.examples.specs.ParaxialExamples.{PlaneInAir, GlassSphere, MirrorFocus, SphereSums, ParaboloidSums}
@@ -63,8 +63,8 @@ unfolding opened_rows
 mangin_first = first_by_trying mangin (whole_dec (pos 2)) (tenths (pos 1)) _ refl
 
 pub stop_at_object : StopAtObject
-unfolding first_order first_attempt ray_rows
-stop_at_object = refl
+unfolding opened_rows
+stop_at_object = ap (λ out. out.enp) (first_by_trying (doublet 0) (whole_dec (pos 2)) (tenths (pos 1)) _ refl)
 
 pub sphere_sums : SphereSums
 unfolding opened_rows

@@ -9,7 +9,9 @@ pub mod ComputedFolds
 pub mod ComputedForms
 pub mod ComputedRounds
 pub mod ComputedRows
+pub mod ComputedWidths
 pub mod Concrete
+pub mod ExactChains
 pub mod Exchange
 mod FirstOrderExamples
 pub mod Flat

@@ -2,12 +2,12 @@
 use Rattle.std.specs.Prelude.{◌≡◌, pos, negsuc, [], ◌∷◌, Some}
 use Rattle.fixdec.specs.declared.step.Why.TheVariants.{Root, Range}
 use Rattle.examples.specs.ComputedRows.{Gives, place, headed, about, ones, tenths}
-use Rattle.examples.specs.Worked.{level_ray, far_object, setup_of}
+use Rattle.examples.specs.Worked.{flat_glass, level_ray, far_object, setup_of}
 use Rattle.fixdec.specs.IntervalOperations.{operations}
 use Rattle.lensmodel.specs.Rows.Outcome.{outcome_at}
 use Rattle.lensmodel.specs.Setup.Values.{zero_decimal, plane}
 use Rattle.examples.specs.WorkedRow.{span}
-use Rattle.lensmodel.specs.declared.glass.Medium.TheVariants.{Air}
+use Rattle.lensmodel.specs.declared.glass.Medium.TheVariants.{Air, Of}
 use Rattle.lensmodel.specs.declared.launch.Launch.{Launch}
 use Rattle.lensmodel.specs.declared.launch.Launch.TheVariants.{Plain}
 use Rattle.lensmodel.specs.declared.row.Word.TheVariants.{Passes, Outside, Lost}
@@ -80,3 +80,29 @@ BowlAsConic =
 -- at scale 12 its squares are within the cap, and no slope round tells the two crossings apart
 abbrev pub BowlRoot : Type 0
 BowlRoot = outcome_at (operations 12) 12 (asphere_setup bowl) steep_ray ≡ record { scale = 12; word = Lost 1 Root; places = [] }
+
+abbrev pub wide_bowl : Surface
+wide_bowl = record plane { kind = EvenAsph; thick = Some record { mant = pos 1; exp = pos 1 }; semi = Some (ones 9); a1 = tenths 1 }
+
+abbrev pub far_conic : Surface
+far_conic = record plane { kind = EvenAsph; curv = tenths 1; conic = ones 4; thick = Some (ones 4); semi = Some (ones 5); a2 = record { mant = pos 1; exp = negsuc 3 } }
+
+-- a surface into glass FLAT
+abbrev pub into_glass : Surface → Setup
+into_glass surface = setup_of (far_object ∷ surface ∷ plane ∷ []) (Air ∷ Of flat_glass ∷ [])
+
+-- a bowl so wide that a ray at its edge crosses it in the last of the 64 cells, where the sag is nearly the window's end
+abbrev pub LastCell : Type 0
+LastCell =
+    Gives 6 (asphere_setup wide_bowl) (level_ray (record { mant = pos 989; exp = negsuc 1 })) Passes
+    (headed (place (span (pos 97811664) (pos 97812537)) (about 22) (span (pos 9889978) (pos 9890022)) (span (pos 9781156) (pos 9781264)) (span (pos 9781144) (pos 9781276))) (about 1) (about 1) (span (pos 999999) (pos 1000001))
+    ∷ place (span (pos 97811605) (pos 97812596)) (about 25) (span (pos 9889975) (pos 9890025)) (about 1) (span (pos 9999876) (pos 10000124))
+    ∷ [])
+
+-- an even asphere of the conic constant 4, into glass
+abbrev pub ConicAsphere : Type 0
+ConicAsphere =
+    Gives 6 (into_glass far_conic) (level_ray (ones 3)) Passes
+    (headed (place (span (pos 8999976) (pos 9000026)) (about 4) (span (pos 2999996) (pos 3000004)) (span (pos 524852) (pos 524868)) (span (pos 524849) (pos 524871))) (about 3) (span (negsuc 134671) (negsuc 134642)) (span (pos 990867) (pos 990919))
+    ∷ place (span (pos 6389125) (pos 6389875)) (about 20) (span (pos 2527672) (pos 2527820)) (about 1) (span (pos 5785308) (pos 5785649))
+    ∷ [])

@@ -4,7 +4,7 @@ use Rattle.fixdec.specs.Decimal.{Decimal}
 use Rattle.examples.specs.ComputedBoxes.{boxed}
 use Rattle.examples.specs.ComputedRows.{Gives, place, headed, about, ones, tenths}
 use Rattle.lensmodel.specs.Setup.Values.{plane}
-use Rattle.examples.specs.Worked.{flat_name, flat_glass, far_object, setup_of, plane_setup, slanted_ray}
+use Rattle.examples.specs.Worked.{flat_name, flat_glass, far_object, setup_of, plane_setup, slanted_ray, level_ray}
 use Rattle.examples.specs.WorkedRow.{span, slanted_heading, slanted_vertex, slanted_image}
 use Rattle.lensmodel.specs.declared.glass.Medium.TheVariants.{Air, Of}
 use Rattle.lensmodel.specs.declared.row.Word.TheVariants.{Passes, Vignetted, Undecided, Wide}
@@ -82,3 +82,30 @@ TolerantBehind =
     (headed (place (about 2) (about 3) (about 3) (about 1) (about 8)) (about 4) (span (pos 599589) (pos 600411)) (span (pos 799669) (pos 800331))
     ∷ place (span (pos 8980098) (pos 9019902)) (about 30) (span (pos 2996685) (pos 3003315)) (about 1) (span (pos 7497492) (pos 7502508))
     ∷ [])
+
+-- a plane in air with a rim of half a millionth past 1/2: at scale 6 its square is from 0.25 to 0.250002
+abbrev pub rim_half : Setup
+rim_half =
+    setup_of (far_object ∷ record plane { thick = Some (ones 4); semi = Some record { mant = pos 5000005; exp = negsuc 6 }; rim = true } ∷ plane ∷ []) (Air ∷ Air ∷ [])
+
+-- rho ends where the square begins: the ray passes at scale 6
+abbrev pub RimLeastMet : Type 0
+RimLeastMet =
+    Gives 6 rim_half (level_ray (millionths 499995)) Passes
+    (headed (place (span (pos 249992) (pos 250000)) (about 3) (span (pos 499992) (pos 499998)) (about 1) (about 4)) (about 1) (about 1) (span (pos 999999) (pos 1000001))
+    ∷ place (span (pos 249981) (pos 250011)) (about 14) (span (pos 499981) (pos 500009)) (about 1) (span (pos 3999988) (pos 4000013))
+    ∷ [])
+
+-- rho ends within the square: the ray passes at scale 9
+abbrev pub RimLeastPassed : Type 0
+RimLeastPassed =
+    Gives 9 rim_half (level_ray (millionths 499996)) Passes
+    (headed (place (span (pos 249995997) (pos 249996005)) (about 3) (span (pos 499995997) (pos 499996003)) (about 1) (about 4)) (about 1) (about 1) (span (pos 999999999) (pos 1000000001))
+    ∷ place (span (pos 249995986) (pos 249996016)) (about 14) (span (pos 499995986) (pos 499996014)) (about 1) (span (pos 3999999988) (pos 4000000013))
+    ∷ [])
+
+-- rho begins where the square ends: the ray is vignetted at scale 9
+abbrev pub RimGreatestMet : Type 0
+RimGreatestMet =
+    Gives 9 rim_half (level_ray (millionths 500005)) (Vignetted 1)
+    (place (span (pos 250004997) (pos 250005005)) (about 3) (span (pos 500004997) (pos 500005003)) (about 1) (about 4) ∷ [])

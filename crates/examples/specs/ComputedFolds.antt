@@ -94,3 +94,14 @@ FoldedBox =
     ∷ headed (place (span (pos 6482130) (pos 6736722)) (span (pos 805410) (pos 842878)) (span (pos 2415560) (pos 2454846)) (span (pos 128622) (pos 135058)) (span (pos 13333456) (pos 13429210))) (span (negsuc 347388) (negsuc 342546)) (span (negsuc 420114) (negsuc 412616)) (span (pos 827865) (pos 854827))
     ∷ place (span (pos 714936) (pos 988704)) (span (negsuc 815534) (negsuc 708222)) (span (pos 454270) (pos 587578)) (about 1) (span (pos 17857172) (pos 18100664))
     ∷ [])
+
+-- the same with the residual 10^-4, a hundred units: each widening shows
+abbrev pub FoldedCoarse : Type 0
+FoldedCoarse =
+    Gives 6 (record folded_setup { res = 4; width = ones 10 }) skew_ray Passes
+    (headed (place (span (pos 25140336) (pos 25144803)) (span (pos 2985694) (pos 2985991)) (span (pos 4028147) (pos 4028481)) (span (pos 282906) (pos 283380)) (span (pos 284453) (pos 285361))) (span (negsuc 57971) (negsuc 57403)) (span (pos 32783) (pos 33450)) (span (pos 997059) (pos 998512))
+    ∷ headed (place (span (pos 24958261) (pos 24994761)) (span (pos 2840883) (pos 2843396)) (span (pos 4109458) (pos 4112160)) (span (negsuc 231746) (negsuc 230930)) (span (pos 4016980) (pos 4025942))) (span (negsuc 165839) (negsuc 163564)) (span (negsuc 123152) (negsuc 120178)) (span (negsuc 981820) (negsuc 975834))
+    ∷ headed (place (span (pos 20281457) (pos 20462584)) (span (pos 2421124) (pos 2434806)) (span (pos 3797317) (pos 3812388)) (span (pos 305855) (pos 308705)) (span (pos 7774273) (pos 7812601))) (span (negsuc 290191) (negsuc 283796)) (span (negsuc 249473) (negsuc 240700)) (span (negsuc 945328) (negsuc 906813))
+    ∷ headed (place (span (pos 6184202) (pos 7037654)) (span (pos 759151) (pos 887016)) (span (pos 2368099) (pos 2500171)) (span (pos 123295) (pos 140447)) (span (pos 13238205) (pos 13531085))) (span (negsuc 354638) (negsuc 335376)) (span (negsuc 430469) (negsuc 402347)) (span (pos 778180) (pos 904374))
+    ∷ place (span (pos 345950) (pos 1629053)) (span (negsuc 1007744) (negsuc 544091)) (span (pos 223415) (pos 783264)) (about 50) (span (pos 17505590) (pos 18513137))
+    ∷ [])

@@ -1,5 +1,6 @@
--- The words in linear arithmetic: rows of worked setups with a box whose one tolerance is 0.
-use Rattle.std.specs.Prelude.{◌≡◌, ℤ, pos, List, [], ◌∷◌, replicate}
+-- The words in linear arithmetic: rows of worked setups with a box that is empty, or whose one
+-- tolerance is 0.
+use Rattle.std.specs.Prelude.{◌≡◌, ℤ, pos, List, [], ◌∷◌, replicate, Some}
 use Rattle.fixdec.specs.Form.{LinearForm, lin_minus, lin_times, lin_over}
 use Rattle.fixdec.specs.declared.step.Step.TheVariants.{Val}
 use Rattle.examples.specs.ComputedAspheres.{asphere_setup, bent}
@@ -15,6 +16,14 @@ use Rattle.lensmodel.specs.declared.tolerance.TolKind.TheVariants.{Curv}
 -- a setup with the tolerance 0 on the curvature of surface 1
 abbrev pub rigid : Setup → Setup
 rigid s = boxed (record { kind = Curv; surface = 1; delta = ones 0 }) s.width s
+
+-- an empty box: the row is in linear arithmetic too
+abbrev pub EmptyBox : Type 0
+EmptyBox =
+    Gives 6 (record plane_setup { toler = Some (record { list = record { items = [] } }) }) slanted_ray Passes
+    (headed (place (about 2) (about 3) (about 3) (about 1) (about 5)) (about 1) (span (pos 599997) (pos 600003)) (span (pos 799998) (pos 800002))
+    ∷ place (span (pos 8999788) (pos 9000212)) (about 18) (span (pos 2999965) (pos 3000035)) (about 1) (span (pos 4999976) (pos 5000024))
+    ∷ [])
 
 abbrev pub PlaneInForms : Type 0
 PlaneInForms =

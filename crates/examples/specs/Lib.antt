@@ -7,7 +7,9 @@ pub mod ComputedForms
 pub mod ComputedRounds
 pub mod ComputedRows
 pub mod ComputedScales
+pub mod ComputedWidths
 pub mod DoubletExamples
+pub mod ExactChains
 pub mod Exchange
 pub mod JoiningExamples
 pub mod LaunchExamples

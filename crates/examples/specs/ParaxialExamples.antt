@@ -28,19 +28,19 @@ PlaneInAir = first_order plane_setup (whole_dec (pos 1)) zero_decimal ≡ record
 -- a sphere of radius 10 with an index of 1.5 behind it has the focal lengths 30 and 20
 abbrev pub GlassSphere : Type 0
 GlassSphere = first_order sphere_setup (whole_dec (pos 1)) zero_decimal ≡ record {
-    scale = 15;
-    efl = Val (interval (pos 29999999999342100) (pos 30000000000657601));
-    bfl = Val (interval (pos 29999999999342100) (pos 30000000000657601));
-    ffl = Val (interval (negsuc 20000000000472860) (negsuc 19999999999526929));
-    front = Val (interval (negsuc 915914) (pos 915925));
-    back = Val (interval (negsuc 1315500) (pos 1315501));
-    enp = Val (interval (negsuc 999) (pos 1000));
-    trail = record {
-      items =
-          (Val (interval (pos 1000000000000000) (pos 1000000000000000)), Val (interval (negsuc 33333333334030) (negsuc 33333333332635)))
-          ∷ (Val (interval (pos 666666666658690) (pos 666666666674640)), Val (interval (negsuc 33333333334030) (negsuc 33333333332635))) ∷ [];
-    };
-  }
+  scale = 15;
+  efl = Val (interval (pos 29999999999342100) (pos 30000000000657601));
+  bfl = Val (interval (pos 29999999999342100) (pos 30000000000657601));
+  ffl = Val (interval (negsuc 20000000000472860) (negsuc 19999999999526929));
+  front = Val (interval (negsuc 915914) (pos 915925));
+  back = Val (interval (negsuc 1315500) (pos 1315501));
+  enp = Val (interval (negsuc 999) (pos 1000));
+  trail = record {
+    items =
+        (Val (interval (pos 1000000000000000) (pos 1000000000000000)), Val (interval (negsuc 33333333334030) (negsuc 33333333332635)))
+        ∷ (Val (interval (pos 666666666658690) (pos 666666666674640)), Val (interval (negsuc 33333333334030) (negsuc 33333333332635))) ∷ [];
+  };
+}
 
 -- a mirror of radius 10 has the focal length 5, in front of it
 abbrev pub MirrorFocus : Type 0
@@ -62,10 +62,10 @@ MirrorFocus = first_order mirror_setup (whole_dec (pos 1)) zero_decimal ≡ reco
 -- S1 holds 1/4500, and S4 holds 1/3000
 abbrev pub SphereSums : Type 0
 SphereSums = seidel_sums sphere_setup (whole_dec (pos 1)) zero_decimal zero_decimal (tenths (pos 1)) ≡ record {
-    scale = 15;
-    per = record { items = (record { s1 = Val (interval (pos 222222221217) (pos 222222223227)); s2 = Val (interval (pos 222222221217) (pos 222222223227)); s3 = Val (interval (pos 222222221217) (pos 222222223227)); s4 = Val (interval (pos 333333332333) (pos 333333334334)); s5 = Val (interval (pos 555555554555) (pos 555555556556)) }) ∷ [] };
-    whole = record { s1 = Val (interval (pos 222222221217) (pos 222222223227)); s2 = Val (interval (pos 222222221217) (pos 222222223227)); s3 = Val (interval (pos 222222221217) (pos 222222223227)); s4 = Val (interval (pos 333333332333) (pos 333333334334)); s5 = Val (interval (pos 555555554555) (pos 555555556556)) };
-  }
+  scale = 15;
+  per = record { items = (record { s1 = Val (interval (pos 222222221217) (pos 222222223227)); s2 = Val (interval (pos 222222221217) (pos 222222223227)); s3 = Val (interval (pos 222222221217) (pos 222222223227)); s4 = Val (interval (pos 333333332333) (pos 333333334334)); s5 = Val (interval (pos 555555554555) (pos 555555556556)) }) ∷ [] };
+  whole = record { s1 = Val (interval (pos 222222221217) (pos 222222223227)); s2 = Val (interval (pos 222222221217) (pos 222222223227)); s3 = Val (interval (pos 222222221217) (pos 222222223227)); s4 = Val (interval (pos 333333332333) (pos 333333334334)); s5 = Val (interval (pos 555555554555) (pos 555555556556)) };
+}
 
 -- a paraboloid has no spherical aberration
 abbrev pub ParaboloidSums : Type 0

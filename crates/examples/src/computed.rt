@@ -1,13 +1,14 @@
 //! Rows of worked setups, number for number: each function does nothing, and its contract says
 //! what the definitions of the rows give.
 
-ghost use Rattle.examples.specs.ComputedAspheres.{SphericalHeight, BentHeight, PastZone, AtZone, BowlLost, BowlRoot, BowlAsConic};
+ghost use Rattle.examples.specs.ComputedAspheres.{SphericalHeight, BentHeight, PastZone, AtZone, BowlLost, BowlRoot, BowlAsConic, LastCell, ConicAsphere};
 ghost use Rattle.examples.specs.ComputedBoxes.{ThicknessBox, PlateBox, FlatIndex, HeavyIndex, CrownIndex};
-ghost use Rattle.examples.specs.ComputedEdges.{BoundMet, BoundPassed, ImageTie, ImageRim, EqualGlass, EqualInBox, TolerantBefore, TolerantBehind};
-ghost use Rattle.examples.specs.ComputedFolds.{FoldedRay, FoldedBox};
-ghost use Rattle.examples.specs.ComputedForms.{PlaneInForms, AsphereInForms, OutsideInForms, ReflectedInForms, VignettedInForms, TieInForms, FormDifference, FormQuotient, FormProduct};
+ghost use Rattle.examples.specs.ComputedEdges.{BoundMet, BoundPassed, ImageTie, ImageRim, EqualGlass, EqualInBox, TolerantBefore, TolerantBehind, RimLeastMet, RimLeastPassed, RimGreatestMet};
+ghost use Rattle.examples.specs.ComputedFolds.{FoldedRay, FoldedBox, FoldedCoarse};
+ghost use Rattle.examples.specs.ComputedForms.{EmptyBox, PlaneInForms, AsphereInForms, OutsideInForms, ReflectedInForms, VignettedInForms, TieInForms, FormDifference, FormQuotient, FormProduct};
 ghost use Rattle.examples.specs.ComputedRounds.{BentParts, FrontParts, SteepRounds};
 ghost use Rattle.examples.specs.ComputedRows.{SlantedPlane, SphereHeight, GlassAxis, MirrorFocus, PastSphere, BehindEquator, TotalReflection, OutsideRim, InsideRim, FanRay, AimedRay};
+ghost use Rattle.examples.specs.ComputedWidths.{WidePath, WideX, WideY, WideZ, WideL, WideM, WideN};
 ghost use Rattle.examples.specs.ComputedScales.{RimTie, WideBeforeUndecided, VignettedBeforeWide, FinerPasses, SphereEdge, GrazingRay, FarImage, FarthestImage, FinestResidual, LessFarImage, FartherImage, FinestPasses, CoarseResidual, FineResidual};
 
 /// Rays that reach the image: through a plane, through a sphere in air, along the axis of a sphere
@@ -69,7 +70,8 @@ pub fn residuals()
 {}
 
 /// Even aspheres: one that is a sphere, one that is bent, rays past the zone and at it, and a bowl
-/// whose steep ray is lost, though it crosses the same bowl as a conic.
+/// whose steep ray is lost, though it crosses the same bowl as a conic; a crossing in the last cell,
+/// and a conic constant far from 0.
 pub fn aspheres()
     ensures spherical { SphericalHeight }
     ensures bent { BentHeight }
@@ -78,6 +80,8 @@ pub fn aspheres()
     ensures bowl { BowlLost }
     ensures root { BowlRoot }
     ensures conic { BowlAsConic }
+    ensures last_cell { LastCell }
+    ensures far_conic { ConicAsphere }
 {}
 
 /// Rays through a box, in linear arithmetic.
@@ -87,10 +91,11 @@ pub fn rays_in_box()
 {}
 
 /// A skew ray through even aspheres, conics, glass and mirrors, forwards and backwards: in
-/// intervals, and with a box in linear arithmetic.
+/// intervals, with a box in linear arithmetic, and with a residual of a hundred units.
 pub fn folded_rays()
     ensures intervals { FoldedRay }
     ensures forms { FoldedBox }
+    ensures coarse { FoldedCoarse }
 {}
 
 /// Indices by both formulas.
@@ -104,6 +109,25 @@ pub fn indices()
 pub fn bounds_turn()
     ensures met { BoundMet }
     ensures passed { BoundPassed }
+{}
+
+/// A rim whose square isn't one number at scale 6: rho that ends where it begins, rho that ends
+/// within it, and rho that begins where it ends.
+pub fn rims_turn()
+    ensures least { RimLeastMet }
+    ensures within { RimLeastPassed }
+    ensures greatest { RimGreatestMet }
+{}
+
+/// Each of the intervals of a place and of a heading alone makes a row wide.
+pub fn widths_turn()
+    ensures path { WidePath }
+    ensures x { WideX }
+    ensures y { WideY }
+    ensures z { WideZ }
+    ensures l { WideL }
+    ensures m { WideM }
+    ensures n { WideN }
 {}
 
 /// A rim at the image: its words name the image.
@@ -127,8 +151,9 @@ pub fn form_values()
     ensures product { FormProduct }
 {}
 
-/// The words in linear arithmetic.
+/// The words in linear arithmetic, which a box, even an empty one, asks for.
 pub fn words_in_forms()
+    ensures empty { EmptyBox }
     ensures plane { PlaneInForms }
     ensures asphere { AsphereInForms }
     ensures outside { OutsideInForms }

@@ -2,6 +2,7 @@
 //! nothing, and its contract says what the definitions give.
 
 ghost use Rattle.examples.specs.DoubletExamples.{DoubletFirst, StopAtObject, StopAtImage, ManginFirst, DoubletSums, HighSums, ManginSums};
+ghost use Rattle.examples.specs.ExactChains.{FirstChainMeets, SumsChainMeets};
 ghost use Rattle.examples.specs.JoiningExamples.{Wavelengths, Glasses, Tolerances, WideTolerance};
 ghost use Rattle.examples.specs.LaunchExamples.{FanOfTwo, GridOfOne};
 ghost use Rattle.examples.specs.LaunchLaws.{CountIs, FanAlongY, FanAlongX, GridAt};
@@ -86,4 +87,10 @@ pub fn spots()
     ensures grid { GridStatistics }
     ensures mixed { MixedStatistics }
     ensures far { FarStatistics }
+{}
+
+/// A paraxial chain and a Seidel chain of two surfaces, in exact fractions.
+pub fn exact_chains()
+    ensures first { FirstChainMeets }
+    ensures sums { SumsChainMeets }
 {}
