@@ -1,10 +1,10 @@
 -- Worked aspheres, by computing.
 use Rattle.std.proofs.Common.{ℕ, refl}
-use Rattle.std.specs.Prelude.{pos, negsuc}
+use Rattle.std.specs.Prelude.{pos, negsuc, Some}
 use Rattle.fixdec.specs.Interval.{iv_size}
 use Rattle.fixdec.specs.IntervalOperations.{operations}
 use Rattle.fixdec.specs.Zone.{zone, norm, least_power}
-use Rattle.examples.specs.ComputedAspheres.{SphericalHeight, BentHeight, PastZone, AtZone, BowlLost, BowlRoot, BowlAsConic, LastCell, ConicAsphere, wide_bowl, far_conic, into_glass, spherical, bent, bowl, paraboloid, steep_ray, asphere_setup}
+use Rattle.examples.specs.ComputedAspheres.{SphericalHeight, BentHeight, PastZone, AtZone, BowlLost, BowlRoot, BowlAsConic, LastCell, ConicAsphere, ZoneSquare, AsphereEdge, small_bowl, wide_bowl, far_conic, into_glass, spherical, bent, bowl, paraboloid, steep_ray, asphere_setup}
 use Rattle.examples.specs.ComputedRows.{ones, tenths}
 use Rattle.examples.specs.Worked.{level_ray}
 use Rattle.lensmodel.specs.Rows.Sag.{sag_rows}
@@ -52,3 +52,11 @@ last_cell = row_by_trying (asphere_setup wide_bowl) (level_ray (record { mant = 
 pub conic_asphere : ConicAsphere
 unfolding opened_aspheres
 conic_asphere = row_by_trying (into_glass far_conic) (level_ray (ones 3)) _ refl refl
+
+pub zone_between : ZoneSquare
+unfolding opened_aspheres
+zone_between = row_by_trying (asphere_setup small_bowl) (level_ray (record { mant = pos 550005; exp = negsuc 5 })) _ refl refl
+
+pub edge_asphere : AsphereEdge
+unfolding opened_aspheres
+edge_asphere = row_by_trying (into_glass (record spherical { semi = Some record { mant = pos 1; exp = pos 1 } })) (level_ray (record { mant = pos 1; exp = pos 1 })) _ refl refl

@@ -9,6 +9,8 @@ pub mod ComputedFolds
 pub mod ComputedForms
 pub mod ComputedRounds
 pub mod ComputedRows
+pub mod ComputedSides
+pub mod ComputedTies
 pub mod ComputedWidths
 pub mod Concrete
 pub mod ExactChains

@@ -33,7 +33,7 @@ use Rattle.examples.proofs.TriedForms.{linear_by, same_linear}
 use Rattle.examples.proofs.TriedRoots.{operations_by, tried_root, same_operations}
 
 module _ (cell : Operations Ends) (scale : ℕ) where
-  abbrev cell_by : Prepared Ends → Ends → Line Ends → ℤ → Ends → Step Ends
+  abbrev pub cell_by : Prepared Ends → Ends → Line Ends → ℤ → Ends → Step Ends
   cell_by face zone2 line e z = do
     x2 ← cell.square (← along_row cell line.x0 line.p z)
     y2 ← cell.square (← along_row cell line.y0 line.q z)

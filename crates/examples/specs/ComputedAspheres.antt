@@ -106,3 +106,20 @@ ConicAsphere =
     (headed (place (span (pos 8999976) (pos 9000026)) (about 4) (span (pos 2999996) (pos 3000004)) (span (pos 524852) (pos 524868)) (span (pos 524849) (pos 524871))) (about 3) (span (negsuc 134671) (negsuc 134642)) (span (pos 990867) (pos 990919))
     ∷ place (span (pos 6389125) (pos 6389875)) (about 20) (span (pos 2527672) (pos 2527820)) (about 1) (span (pos 5785308) (pos 5785649))
     ∷ [])
+
+abbrev pub small_bowl : Surface
+small_bowl = record plane { kind = EvenAsph; thick = Some (ones 1); semi = Some record { mant = pos 5000005; exp = negsuc 6 }; a1 = tenths 1 }
+
+-- a zone whose square is from 0.3025 to 0.302502 at scale 6, and a ray whose rho begins between them
+abbrev pub ZoneSquare : Type 0
+ZoneSquare =
+    Gives 6 (asphere_setup small_bowl) (level_ray (record { mant = pos 550005; exp = negsuc 5 })) Passes
+    (headed (place (span (pos 302502) (pos 302502)) (about 3) (span (pos 550002) (pos 550008)) (span (pos 30246) (pos 30255)) (span (pos 30243) (pos 30258))) (about 1) (about 1) (span (pos 999999) (pos 1000001))
+    ∷ place (span (pos 302497) (pos 302515)) (about 7) (span (pos 549998) (pos 550012)) (about 1) (span (pos 999984) (pos 1000016))
+    ∷ [])
+
+-- at the edge of a sphere that is written as an even asphere no slope round is made
+abbrev pub AsphereEdge : Type 0
+AsphereEdge =
+    Gives 15 (into_glass (record spherical { semi = Some record { mant = pos 1; exp = pos 1 } })) (level_ray (record { mant = pos 1; exp = pos 1 })) (Lost 1 Root)
+    []

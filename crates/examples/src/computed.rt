@@ -1,13 +1,15 @@
 //! Rows of worked setups, number for number: each function does nothing, and its contract says
 //! what the definitions of the rows give.
 
-ghost use Rattle.examples.specs.ComputedAspheres.{SphericalHeight, BentHeight, PastZone, AtZone, BowlLost, BowlRoot, BowlAsConic, LastCell, ConicAsphere};
+ghost use Rattle.examples.specs.ComputedAspheres.{SphericalHeight, BentHeight, PastZone, AtZone, BowlLost, BowlRoot, BowlAsConic, LastCell, ConicAsphere, ZoneSquare, AsphereEdge};
 ghost use Rattle.examples.specs.ComputedBoxes.{ThicknessBox, PlateBox, FlatIndex, HeavyIndex, CrownIndex};
 ghost use Rattle.examples.specs.ComputedEdges.{BoundMet, BoundPassed, ImageTie, ImageRim, EqualGlass, EqualInBox, TolerantBefore, TolerantBehind, RimLeastMet, RimLeastPassed, RimGreatestMet};
 ghost use Rattle.examples.specs.ComputedFolds.{FoldedRay, FoldedBox, FoldedCoarse};
 ghost use Rattle.examples.specs.ComputedForms.{EmptyBox, PlaneInForms, AsphereInForms, OutsideInForms, ReflectedInForms, VignettedInForms, TieInForms, FormDifference, FormQuotient, FormProduct};
-ghost use Rattle.examples.specs.ComputedRounds.{BentParts, FrontParts, SteepRounds};
+ghost use Rattle.examples.specs.ComputedRounds.{BentParts, FrontParts, SkewParts, SkewRow, SteepRounds};
 ghost use Rattle.examples.specs.ComputedRows.{SlantedPlane, SphereHeight, GlassAxis, MirrorFocus, PastSphere, BehindEquator, TotalReflection, OutsideRim, InsideRim, FanRay, AimedRay};
+ghost use Rattle.examples.specs.ComputedSides.{SteepMirror, TwoMirrors, GrazingCoarse};
+ghost use Rattle.examples.specs.ComputedTies.{Touching, AtZero, OfWindow};
 ghost use Rattle.examples.specs.ComputedWidths.{WidePath, WideX, WideY, WideZ, WideL, WideM, WideN};
 ghost use Rattle.examples.specs.ComputedScales.{RimTie, WideBeforeUndecided, VignettedBeforeWide, FinerPasses, SphereEdge, GrazingRay, FarImage, FarthestImage, FinestResidual, LessFarImage, FartherImage, FinestPasses, CoarseResidual, FineResidual};
 
@@ -71,7 +73,7 @@ pub fn residuals()
 
 /// Even aspheres: one that is a sphere, one that is bent, rays past the zone and at it, and a bowl
 /// whose steep ray is lost, though it crosses the same bowl as a conic; a crossing in the last cell,
-/// and a conic constant far from 0.
+/// a conic constant far from 0, a zone whose square isn't one number, and the edge of a sphere.
 pub fn aspheres()
     ensures spherical { SphericalHeight }
     ensures bent { BentHeight }
@@ -82,6 +84,8 @@ pub fn aspheres()
     ensures conic { BowlAsConic }
     ensures last_cell { LastCell }
     ensures far_conic { ConicAsphere }
+    ensures zone_square { ZoneSquare }
+    ensures edge { AsphereEdge }
 {}
 
 /// Rays through a box, in linear arithmetic.
@@ -162,10 +166,27 @@ pub fn words_in_forms()
     ensures tie { TieInForms }
 {}
 
-/// The parts of a meeting with an even asphere: the window, what the cells leave of it, and the
-/// slope rounds.
+/// The parts of a meeting with an even asphere: the window, what the cells leave of it, the sag over
+/// that, and the slope rounds.
 pub fn meetings()
     ensures bent { BentParts }
     ensures front { FrontParts }
+    ensures skew { SkewParts }
+    ensures skew_row { SkewRow }
     ensures steep { SteepRounds }
+{}
+
+/// Where a step of a meeting turns: intervals that touch, bounds at 0, and the cells of a window.
+pub fn ties()
+    ensures touching { Touching }
+    ensures at_zero { AtZero }
+    ensures of_window { OfWindow }
+{}
+
+/// Rays on the wrong side: a mirror that sends a ray on, and one that sends it back once more; and a
+/// ray nearly along a plane.
+pub fn sides()
+    ensures mirror { SteepMirror }
+    ensures mirrors { TwoMirrors }
+    ensures grazing { GrazingCoarse }
 {}
