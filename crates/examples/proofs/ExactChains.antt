@@ -1,20 +1,23 @@
 -- A paraxial chain and a Seidel chain in exact fractions: each equation by computing.
 use Rattle.std.proofs.Common.{◌≡◌, ℕ, zero, suc, ◌<◌, ap, sym, subst, refl, arith}
-use Rattle.std.specs.Prelude.{pos, negsuc, slice_get, Option, Some, None}
-use Rattle.examples.specs.DoubletExamples.{doublet}
-use Rattle.examples.specs.ExactChains.{FirstChainMeets, SumsChainMeets, over, doublet_indices, doublet_chain, sums_chain}
+use Rattle.std.specs.Prelude.{min, pos, negsuc, slice_get, Option, Some, None}
+use Rattle.examples.specs.DoubletExamples.{doublet, doublet_out, doublet_sums}
+use Rattle.examples.specs.ExactChains.{FirstChainMeets, FirstChainHeld, SumsChainMeets, SumsChainHeld, over, doublet_indices, doublet_chain, sums_chain}
 use Rattle.examples.specs.SmallLenses.{whole_dec, tenths}
 use Rattle.fixdec.specs.Frac.{◌+Q◌, ◌*Q◌, ◌-Q◌, neg_Q, whole}
 use Rattle.lensmodel.specs.Equations.Dispersion.{IsIndex}
 use Rattle.lensmodel.specs.Equations.Residual.{IsWithin}
-use Rattle.lensmodel.specs.Paraxial.FirstOrder.{one_decimal}
-use Rattle.lensmodel.specs.Paraxial.Seidel.{HasSumsAt}
+use Rattle.lensmodel.specs.Paraxial.FirstOrder.{one_decimal, Holds, HoldsFirst}
+use Rattle.lensmodel.specs.Paraxial.Seidel.{HasSumsAt, HoldsFive, HoldsSeidel}
 use Rattle.lensmodel.specs.Paraxial.Trace.{IsParaxialFrom, signed_index, vertex_curvature, thickness}
+use Rattle.fixdec.specs.Ends.{Ends}
+use Rattle.fixdec.specs.declared.step.Step.{Step}
+use Rattle.lensmodel.specs.declared.paraxial.Five.{Five}
 use Rattle.lensmodel.specs.Setup.Media.{medium_at}
 use Rattle.lensmodel.specs.Setup.Values.{zero_decimal, eps, owner}
 use Rattle.examples.proofs.Axis.{formula}
 use Rattle.examples.proofs.Concrete.{same, near, inside, less_than}
-use Rattle.examples.proofs.FirstOrderExamples.{doublet_first, doublet_sums}
+use Rattle.examples.proofs.FirstOrderExamples as rows
 
 indexed : (i : ℕ) → i < 3 → IsIndex (eps (doublet 2)) (medium_at (doublet 2) i) (doublet 2).wave (doublet_indices (owner (doublet 2) i))
 unfolding ◌+Q◌ ◌*Q◌ ◌-Q◌ neg_Q whole
@@ -178,3 +181,44 @@ sums_meet = record {
   sums = summed;
   whole = record { s1 = same refl; s2 = same refl; s3 = same refl; s4 = same refl; s5 = same refl };
 }
+
+-- what an option holds, or something else
+held_or : {X : Type 0} → X → Option X → X
+held_or x None = x
+held_or x (Some y) = y
+
+-- what is said of a place's value holds of what is got there
+got : {X : Type 0} (P : X → Type 0) (x y : X) → P x → Some x ≡ Some y → P y
+unfolding held_or
+got P x y p h = subst P (ap (held_or x) h) p
+
+-- the ray at place j
+abbrev HoldsPassing : ℕ → Step Ends × Step Ends → Type 0
+HoldsPassing j p = Holds 15 p.0 (doublet_chain.asked.y (suc j)) × Holds 15 p.1 (doublet_chain.asked.u (min (suc j) 2))
+
+trail_held : (j : ℕ) (p : Step Ends × Step Ends) → slice_get doublet_out.trail.items j ≡ Some p → HoldsPassing j p
+unfolding ◌*Q◌ whole
+trail_held zero p h = got (HoldsPassing 0) _ p (inside tt tt, inside tt tt) h
+trail_held (suc zero) p h = got (HoldsPassing 1) _ p (inside tt tt, inside tt tt) h
+trail_held (suc (suc zero)) p h = got (HoldsPassing 2) _ p (inside tt tt, inside tt tt) h
+trail_held (suc (suc (suc j))) p h = absurd (cc)
+
+pub first_held : FirstChainHeld
+unfolding ◌*Q◌ whole
+first_held =
+    subst (λ out. HoldsFirst (doublet 2) out doublet_chain) (sym rows.doublet_first)
+    (record { efl = inside tt tt; bfl = inside tt tt; ffl = inside tt tt; back = inside tt tt; front = inside tt tt; enp = λ lt. inside tt tt; trail = trail_held })
+
+per_held : (j : ℕ) (five : Five) → slice_get doublet_sums.per.items j ≡ Some five → HoldsFive 15 five (sums_chain.sums_at (suc j))
+unfolding ◌*Q◌ whole
+per_held zero five h =
+    got (λ v. HoldsFive 15 v (sums_chain.sums_at 1)) _ five (record { s1 = inside tt tt; s2 = inside tt tt; s3 = inside tt tt; s4 = inside tt tt; s5 = inside tt tt }) h
+per_held (suc zero) five h =
+    got (λ v. HoldsFive 15 v (sums_chain.sums_at 2)) _ five (record { s1 = inside tt tt; s2 = inside tt tt; s3 = inside tt tt; s4 = inside tt tt; s5 = inside tt tt }) h
+per_held (suc (suc j)) five h = absurd (cc)
+
+pub sums_held : SumsChainHeld
+unfolding ◌*Q◌ whole
+sums_held =
+    subst (λ out. HoldsSeidel out sums_chain) (sym rows.doublet_sums)
+    (record { per = per_held; whole = record { s1 = inside tt tt; s2 = inside tt tt; s3 = inside tt tt; s4 = inside tt tt; s5 = inside tt tt } })

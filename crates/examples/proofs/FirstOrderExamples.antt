@@ -1,7 +1,7 @@
 -- First-order values and Seidel sums of small lenses, by computing.
 use Rattle.std.proofs.Common.{◌≡◌, ℕ, ap, subst, refl}
 use Rattle.std.specs.Prelude.{pos, negsuc}
-use Rattle.examples.specs.DoubletExamples.{DoubletFirst, StopAtObject, StopAtImage, ManginFirst, DoubletSums, HighSums, ManginSums, doublet, mangin}
+use Rattle.examples.specs.DoubletExamples.{DoubletFirst, StopAtObject, StopAtImage, ManginFirst, BlockedFirst, DoubletSums, HighSums, ManginSums, doublet, mangin, blocked}
 use Rattle.examples.specs.ParaxialExamples.{PlaneInAir, GlassSphere, MirrorFocus, SphereSums, ParaboloidSums}
 use Rattle.examples.specs.SmallLenses.{whole_dec, tenths}
 use Rattle.examples.specs.Worked.{plane_setup, sphere_setup, mirror_setup}
@@ -65,6 +65,10 @@ mangin_first = first_by_trying mangin (whole_dec (pos 2)) (tenths (pos 1)) _ ref
 pub stop_at_object : StopAtObject
 unfolding opened_rows
 stop_at_object = ap (λ out. out.enp) (first_by_trying (doublet 0) (whole_dec (pos 2)) (tenths (pos 1)) _ refl)
+
+pub blocked_first : BlockedFirst
+unfolding opened_rows
+blocked_first = ap (λ out. out.efl) (first_by_trying blocked (whole_dec (pos 1)) zero_decimal _ refl)
 
 pub sphere_sums : SphereSums
 unfolding opened_rows

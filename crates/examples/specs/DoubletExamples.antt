@@ -1,15 +1,18 @@
--- First-order values and Seidel sums of lenses of two surfaces: an asphere into glass, and behind it a conic or a mirror.
-use Rattle.std.specs.Prelude.{◌≡◌, ℕ, pos, negsuc, true, [], ◌∷◌, Some}
+-- First-order values and Seidel sums of lenses of more surfaces: an asphere into glass, and behind it a conic, or a mirror and the
+-- way back.
+use Rattle.std.specs.Prelude.{◌≡◌, ℕ, ◌^◌, pos, negsuc, true, [], ◌∷◌, Some}
 use Rattle.fixdec.specs.Decimal.{Decimal}
 use Rattle.fixdec.specs.declared.step.Step.TheVariants.{Val, Lost}
-use Rattle.fixdec.specs.declared.step.Why.TheVariants.{Root}
+use Rattle.fixdec.specs.declared.step.Why.TheVariants.{Root, Range}
 use Rattle.examples.specs.ComputedFolds.{decimal}
-use Rattle.examples.specs.SmallLenses.{whole_dec, tenths, interval}
+use Rattle.examples.specs.SmallLenses.{curved, whole_dec, tenths, interval}
 use Rattle.examples.specs.Worked.{flat_name, flat_glass, far_object, setup_of}
 use Rattle.lensmodel.specs.Paraxial.FirstOrderRows.{first_order}
 use Rattle.lensmodel.specs.Paraxial.SeidelRows.{seidel_sums}
 use Rattle.lensmodel.specs.Setup.Values.{zero_decimal, plane}
 use Rattle.lensmodel.specs.declared.glass.Medium.TheVariants.{Air, Of}
+use Rattle.lensmodel.specs.declared.paraxial.FirstOut.{FirstOut}
+use Rattle.lensmodel.specs.declared.paraxial.SeidelOut.{SeidelOut}
 use Rattle.lensmodel.specs.declared.setup.Setup.{Setup}
 use Rattle.lensmodel.specs.declared.surface.Surface.{Surface}
 use Rattle.lensmodel.specs.declared.surface.SurfaceKind.TheVariants.{EvenAsph}
@@ -37,15 +40,21 @@ doublet stop =
     let s = setup_of (far_object ∷ front ∷ back ∷ plane ∷ []) (Air ∷ Of flat_glass ∷ Air ∷ []) in
     record s { lens = record s.lens { stop = stop } }
 
--- the conic as a mirror, and the image before it
+-- the conic as a mirror, and the way back out of the glass
 abbrev pub mangin : Setup
 mangin =
-    let s = setup_of (far_object ∷ front ∷ record back { thick = Some (decimal (negsuc 19) 0); mirror = true } ∷ plane ∷ []) (Air ∷ Of flat_glass ∷ Air ∷ []) in
+    let surfaces = far_object ∷ front ∷ record back { thick = Some (whole_dec (negsuc 2)); mirror = true } ∷ curved (tenths (pos 1)) (decimal (negsuc 19) 0) ∷ plane ∷ [] in
+    let s = setup_of surfaces (Air ∷ Of flat_glass ∷ Air ∷ Air ∷ []) in
     record s { lens = record s.lens { stop = 2 } }
 
+-- a curvature past the cap, behind a glass that resonates at the wavelength
+abbrev pub blocked : Setup
+blocked =
+    setup_of (far_object ∷ curved (whole_dec (pos (10 ^ 30))) (whole_dec (pos 4)) ∷ plane ∷ []) (Of (record flat_glass { formula = 2; c1 = decimal (pos 25) 2 }) ∷ Air ∷ [])
+
 -- a ray at the height 2 with the slope 1/10, and the stop at the conic
-abbrev pub DoubletFirst : Type 0
-DoubletFirst = first_order (doublet 2) (whole_dec (pos 2)) (tenths (pos 1)) ≡ record {
+abbrev pub doublet_out : FirstOut
+doublet_out = record {
   scale = 15;
   efl = Val (interval (pos 12195121950885930) (pos 12195121951553094));
   bfl = Val (interval (pos 10731707316740241) (pos 10731707317406101));
@@ -55,6 +64,9 @@ DoubletFirst = first_order (doublet 2) (whole_dec (pos 2)) (tenths (pos 1)) ≡ 
   enp = Val (interval (pos 2272727272714189) (pos 2272727272740355));
   trail = record { items = (Val (interval (pos 2000000000000000) (pos 2000000000000000)), Val (interval (negsuc 13333333334056) (negsuc 13333333332608))) ∷ (Val (interval (pos 1959999999996829) (pos 1960000000003173)), Val (interval (negsuc 69000000002202) (negsuc 68999999997795))) ∷ (Val (interval (pos 579999999951769) (pos 580000000048253)), Val (interval (negsuc 69000000002202) (negsuc 68999999997795))) ∷ [] };
 }
+
+abbrev pub DoubletFirst : Type 0
+DoubletFirst = first_order (doublet 2) (whole_dec (pos 2)) (tenths (pos 1)) ≡ doublet_out
 
 -- the object as a stop has no entrance pupil
 abbrev pub StopAtObject : Type 0
@@ -76,22 +88,29 @@ StopAtImage = first_order (doublet 3) (whole_dec (pos 2000)) (tenths (pos 1)) �
 abbrev pub ManginFirst : Type 0
 ManginFirst = first_order mangin (whole_dec (pos 2)) (tenths (pos 1)) ≡ record {
   scale = 15;
-  efl = Val (interval (negsuc 7812500000114013) (negsuc 7812499999885985));
-  bfl = Val (interval (negsuc 6875000000125558) (negsuc 6874999999874440));
-  ffl = Val (interval (negsuc 3645833333407310) (negsuc 3645833333259344));
-  front = Val (interval (pos 1562499999848853) (pos 1562500000151158));
-  back = Val (interval (pos 937499999760427) (pos 937500000239573));
+  efl = Val (interval (negsuc 4612546125553884) (negsuc 4612546125368623));
+  bfl = Val (interval (negsuc 2287822878320081) (negsuc 2287822878137481));
+  ffl = Val (interval (negsuc 2444649446568789) (negsuc 2444649446420130));
+  front = Val (interval (pos 2167896678799834) (pos 2167896679133754));
+  back = Val (interval (pos 2324723247048542) (pos 2324723247416403));
   enp = Val (interval (pos 2272727272714189) (pos 2272727272740355));
-  trail = record { items = (Val (interval (pos 2000000000000000) (pos 2000000000000000)), Val (interval (negsuc 13333333334056) (negsuc 13333333332608))) ∷ (Val (interval (pos 1959999999996829) (pos 1960000000003173)), Val (interval (pos 209333333331530) (pos 209333333335136))) ∷ (Val (interval (negsuc 2226666666706890) (negsuc 2226666666626426)), Val (interval (pos 209333333331530) (pos 209333333335136))) ∷ [] };
+  trail = record { items = (Val (interval (pos 2000000000000000) (pos 2000000000000000)), Val (interval (negsuc 13333333334056) (negsuc 13333333332608))) ∷ (Val (interval (pos 1959999999996829) (pos 1960000000003173)), Val (interval (pos 209333333331530) (pos 209333333335136))) ∷ (Val (interval (pos 1331999999990421) (pos 1332000000009583)), Val (interval (pos 380599999995701) (pos 380600000004298))) ∷ (Val (interval (negsuc 6280000000096538) (negsuc 6279999999903436)), Val (interval (pos 380599999995701) (pos 380600000004298))) ∷ [] };
 }
 
+-- the curvature comes before the index: its cause is that of the values
+abbrev pub BlockedFirst : Type 0
+BlockedFirst = (first_order blocked (whole_dec (pos 1)) zero_decimal).efl ≡ Lost Range
+
 -- a marginal ray at the height 1 with the slope 1/10, and a chief ray at 1/2 with -1/5
-abbrev pub DoubletSums : Type 0
-DoubletSums = seidel_sums (doublet 2) (whole_dec (pos 1)) (tenths (pos 1)) (tenths (pos 5)) (tenths (negsuc 1)) ≡ record {
+abbrev pub doublet_sums : SeidelOut
+doublet_sums = record {
   scale = 15;
   per = record { items = (record { s1 = Val (interval (pos 11865555554526) (pos 11865555556585)); s2 = Val (interval (pos 1410555554538) (pos 1410555556574)); s3 = Val (interval (pos 3583055554544) (pos 3583055556567)); s4 = Val (interval (pos 2499999998998) (pos 2500000001002)); s5 = Val (interval (negsuc 1630694445446) (negsuc 1630694443441)) }) ∷ (record { s1 = Val (interval (negsuc 161387161009) (negsuc 161387158989)); s2 = Val (interval (pos 42994918969) (pos 42994921031)); s3 = Val (interval (pos 279897958840) (pos 279897961160)); s4 = Val (interval (pos 1041666665646) (pos 1041666667688)); s5 = Val (interval (pos 7511672145501) (pos 7511672147833)) }) ∷ [] };
   whole = record { s1 = Val (interval (pos 11704168393516) (pos 11704168397595)); s2 = Val (interval (pos 1453550473507) (pos 1453550477605)); s3 = Val (interval (pos 3862953513384) (pos 3862953517727)); s4 = Val (interval (pos 3541666664644) (pos 3541666668690)); s5 = Val (interval (pos 5880977700054) (pos 5880977704391)) };
 }
+
+abbrev pub DoubletSums : Type 0
+DoubletSums = seidel_sums (doublet 2) (whole_dec (pos 1)) (tenths (pos 1)) (tenths (pos 5)) (tenths (negsuc 1)) ≡ doublet_sums
 
 -- a marginal ray at the height 20: its fourth power passes the cap at scale 15
 abbrev pub HighSums : Type 0
@@ -104,6 +123,6 @@ HighSums = seidel_sums (doublet 2) (whole_dec (pos 20)) zero_decimal (whole_dec 
 abbrev pub ManginSums : Type 0
 ManginSums = seidel_sums mangin (whole_dec (pos 1)) (tenths (pos 1)) (tenths (pos 5)) (tenths (negsuc 1)) ≡ record {
   scale = 15;
-  per = record { items = (record { s1 = Val (interval (pos 11865555554526) (pos 11865555556585)); s2 = Val (interval (pos 1410555554538) (pos 1410555556574)); s3 = Val (interval (pos 3583055554544) (pos 3583055556567)); s4 = Val (interval (pos 2499999998998) (pos 2500000001002)); s5 = Val (interval (negsuc 1630694445446) (negsuc 1630694443441)) }) ∷ (record { s1 = Val (interval (negsuc 889652161025) (negsuc 889652158973)); s2 = Val (interval (pos 705049918949) (pos 705049921051)); s3 = Val (interval (pos 4220112958841) (pos 4220112961159)); s4 = Val (interval (negsuc 4166666667746) (negsuc 4166666665585)); s5 = Val (interval (pos 311633812297) (pos 311633814370)) }) ∷ [] };
-  whole = record { s1 = Val (interval (pos 10975903393500) (pos 10975903397611)); s2 = Val (interval (pos 2115605473487) (pos 2115605477625)); s3 = Val (interval (pos 7803168513385) (pos 7803168517726)); s4 = Val (interval (negsuc 1666666668748) (negsuc 1666666664583)); s5 = Val (interval (negsuc 1319060633149) (negsuc 1319060629071)) };
+  per = record { items = (record { s1 = Val (interval (pos 11865555554526) (pos 11865555556585)); s2 = Val (interval (pos 1410555554538) (pos 1410555556574)); s3 = Val (interval (pos 3583055554544) (pos 3583055556567)); s4 = Val (interval (pos 2499999998998) (pos 2500000001002)); s5 = Val (interval (negsuc 1630694445446) (negsuc 1630694443441)) }) ∷ (record { s1 = Val (interval (negsuc 889652161025) (negsuc 889652158973)); s2 = Val (interval (pos 705049918949) (pos 705049921051)); s3 = Val (interval (pos 4220112958841) (pos 4220112961159)); s4 = Val (interval (negsuc 4166666667746) (negsuc 4166666665585)); s5 = Val (interval (pos 311633812297) (pos 311633814370)) }) ∷ (record { s1 = Val (interval (pos 5606969021954) (pos 5606969024986)); s2 = Val (interval (pos 3880004431992) (pos 3880004434767)); s3 = Val (interval (pos 2684950520112) (pos 2684950522690)); s4 = Val (interval (pos 2083333332180) (pos 2083333334487)); s5 = Val (interval (pos 3299637007336) (pos 3299637009887)) }) ∷ [] };
+  whole = record { s1 = Val (interval (pos 16582872415454) (pos 16582872422597)); s2 = Val (interval (pos 5995609905479) (pos 5995609912392)); s3 = Val (interval (pos 10488119033497) (pos 10488119040416)); s4 = Val (interval (pos 416666663431) (pos 416666669903)); s5 = Val (interval (pos 1980576374186) (pos 1980576380815)) };
 }

@@ -1,8 +1,8 @@
 //! Small lenses, jobs and spots on which the definitions are worked out: each function does
 //! nothing, and its contract says what the definitions give.
 
-ghost use Rattle.examples.specs.DoubletExamples.{DoubletFirst, StopAtObject, StopAtImage, ManginFirst, DoubletSums, HighSums, ManginSums};
-ghost use Rattle.examples.specs.ExactChains.{FirstChainMeets, SumsChainMeets};
+ghost use Rattle.examples.specs.DoubletExamples.{DoubletFirst, StopAtObject, StopAtImage, ManginFirst, BlockedFirst, DoubletSums, HighSums, ManginSums};
+ghost use Rattle.examples.specs.ExactChains.{FirstChainMeets, FirstChainHeld, SumsChainMeets, SumsChainHeld};
 ghost use Rattle.examples.specs.JoiningExamples.{Wavelengths, Glasses, Tolerances, WideTolerance};
 ghost use Rattle.examples.specs.LaunchExamples.{FanOfTwo, GridOfOne};
 ghost use Rattle.examples.specs.LaunchLaws.{CountIs, FanAlongY, FanAlongX, GridAt};
@@ -61,8 +61,9 @@ pub fn joined_setups()
     ensures wide { WideTolerance }
 {}
 
-/// First-order values of a plane, of a sphere with glass behind it, of a mirror, and of two
-/// surfaces: with the stop at the second, at the object and at the image.
+/// First-order values of a plane, of a sphere with glass behind it, of a mirror, of two surfaces with
+/// the stop at the second, at the object and at the image, of a mirror in glass, and of a lens of
+/// which two rows are lost.
 pub fn first_order_values()
     ensures plane { PlaneInAir }
     ensures sphere { GlassSphere }
@@ -71,9 +72,11 @@ pub fn first_order_values()
     ensures no_stop { StopAtObject }
     ensures last_stop { StopAtImage }
     ensures mangin { ManginFirst }
+    ensures blocked { BlockedFirst }
 {}
 
-/// Seidel sums of a sphere with glass behind it, of a paraboloid that reflects, and of two surfaces.
+/// Seidel sums of a sphere with glass behind it, of a paraboloid that reflects, of two surfaces, and
+/// of a mirror in glass.
 pub fn seidel_sums()
     ensures sphere { SphereSums }
     ensures paraboloid { ParaboloidSums }
@@ -89,8 +92,11 @@ pub fn spots()
     ensures far { FarStatistics }
 {}
 
-/// A paraxial chain and a Seidel chain of two surfaces, in exact fractions.
+/// A paraxial chain and a Seidel chain of two surfaces, in exact fractions: they meet the equations,
+/// and lie in the intervals of the rows.
 pub fn exact_chains()
     ensures first { FirstChainMeets }
+    ensures first_held { FirstChainHeld }
     ensures sums { SumsChainMeets }
+    ensures sums_held { SumsChainHeld }
 {}

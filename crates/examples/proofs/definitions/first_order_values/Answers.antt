@@ -1,4 +1,4 @@
-use Rattle.examples.proofs.FirstOrderExamples.{plane_in_air, glass_sphere, mirror_focus, doublet_first, stop_at_object, stop_at_image, mangin_first}
+use Rattle.examples.proofs.FirstOrderExamples.{plane_in_air, glass_sphere, mirror_focus, doublet_first, stop_at_object, stop_at_image, mangin_first, blocked_first}
 use Rattle.examples.proofs.definitions.first_order_values.Goals as goal
 
 pub returns-clause-plane : goal.returns-clause-plane
@@ -21,3 +21,6 @@ returns-clause-last_stop c = stop_at_image
 
 pub returns-clause-mangin : goal.returns-clause-mangin
 returns-clause-mangin c = mangin_first
+
+pub returns-clause-blocked : goal.returns-clause-blocked
+returns-clause-blocked c = blocked_first
