@@ -4,9 +4,9 @@ use Rattle.std.specs.Prelude.{pos, negsuc}
 use Rattle.fixdec.specs.Interval.{ends, iv_plus, iv_minus, iv_times, iv_square, iv_over, iv_widen, iv_shift, iv_clip}
 use Rattle.fixdec.specs.Scaled.{dec_floor, dec_ceil, dec_span, dec_shifted}
 use Rattle.lensmodel.specs.Rows.Bending.{reflection_rows, stay_rows, normal_rows, incidence_rows, refraction_rows, bend_rows}
-use Rattle.examples.specs.ComputedRows.{SlantedPlane, SphereHeight, GlassAxis, MirrorFocus, PastSphere, BehindEquator, TotalReflection, OutsideRim, InsideRim, FanRay, AimedRay, ones, tenths, ray_sloped, plane_before, air_sphere_setup, bounded_by}
+use Rattle.examples.specs.ComputedRows.{SlantedPlane, NearObject, SphereHeight, GlassAxis, MirrorFocus, PastSphere, BehindEquator, TotalReflection, OutsideRim, InsideRim, FanRay, AimedRay, ones, tenths, ray_sloped, plane_before, near_object, air_sphere_setup, bounded_by}
 use Rattle.examples.specs.Worked.{level_ray, mirror_setup, glass_setup, rim_setup, plane_setup, slanted_ray, sphere_setup, axis_ray}
-use Rattle.examples.specs.ComputedScales.{RimTie, WideBeforeUndecided, VignettedBeforeWide, FinerPasses, SphereEdge, GrazingRay, FarImage, FarthestImage, FinestResidual, LessFarImage, FartherImage, FinestPasses, CoarseResidual, FineResidual}
+use Rattle.examples.specs.ComputedScales.{RimTie, WideBeforeUndecided, VignettedBeforeWide, FinerPasses, SphereEdge, GrazingRay, FarImage, FarthestImage, FinestResidual, LessFarImage, FartherImage, FinestPasses, CoarseResidual, FineResidual, StartLost}
 use Rattle.lensmodel.specs.Rows.Crossing.{arrival_rows, meet_standard_rows}
 use Rattle.lensmodel.specs.Rows.Index.{index_rows}
 use Rattle.lensmodel.specs.Rows.Preparation.{preparation_by, preparation_rows}
@@ -119,3 +119,11 @@ farther_image = row_by_trying (plane_before (record { mant = pos 1; exp = pos 11
 pub finest_passes : FinestPasses
 unfolding opened
 finest_passes = row_by_trying (record plane_setup { width = record { mant = pos 2; exp = negsuc 9 } }) slanted_ray _ refl refl
+
+pub near : NearObject
+unfolding opened
+near = row_by_trying near_object slanted_ray _ refl refl
+
+pub start_lost : StartLost
+unfolding opened
+start_lost = row_by_trying plane_setup (Plain (record { mant = pos 1; exp = pos 30 }) zero_decimal zero_decimal zero_decimal) _ refl refl

@@ -1,9 +1,10 @@
 -- First-order values and Seidel sums of small lenses, by computing.
-use Rattle.std.proofs.Common.{◌≡◌, ℕ, ap, subst, refl}
+use Rattle.std.proofs.Common.{◌≡◌, ℕ, ◌*◌, ◌^◌, ap, subst, refl}
 use Rattle.std.specs.Prelude.{pos, negsuc}
-use Rattle.examples.specs.DoubletExamples.{DoubletFirst, StopAtObject, StopAtImage, ManginFirst, BlockedFirst, DoubletSums, HighSums, ManginSums, doublet, mangin, blocked}
+use Rattle.examples.specs.DoubletExamples.{DoubletFirst, StopAtObject, StopAtImage, ManginFirst, BlockedFirst, HighRays, DoubletSums, HighSums, ManginSums, doublet, mangin, blocked}
 use Rattle.examples.specs.ParaxialExamples.{PlaneInAir, GlassSphere, MirrorFocus, SphereSums, ParaboloidSums}
 use Rattle.examples.specs.SmallLenses.{whole_dec, tenths}
+use Rattle.examples.specs.ComputedFolds.{decimal}
 use Rattle.examples.specs.Worked.{plane_setup, sphere_setup, mirror_setup}
 use Rattle.examples.proofs.TriedRoots.{operations_by, tried_root, same_operations}
 use Rattle.fixdec.specs.Decimal.{Decimal}
@@ -69,6 +70,14 @@ stop_at_object = ap (λ out. out.enp) (first_by_trying (doublet 0) (whole_dec (p
 pub blocked_first : BlockedFirst
 unfolding opened_rows
 blocked_first = ap (λ out. out.efl) (first_by_trying blocked (whole_dec (pos 1)) zero_decimal _ refl)
+
+pub high_rays : HighRays
+unfolding opened_rows
+high_rays = record {
+  at_ninth = ap (λ out. out.scale) (first_by_trying (doublet 2) (decimal (pos (2 * 10 ^ 6)) 0) zero_decimal _ refl);
+  at_sixth = ap (λ out. out.scale) (first_by_trying (doublet 2) (decimal (pos (2 * 10 ^ 9)) 0) zero_decimal _ refl);
+  at_none = ap (λ out. out.scale) (first_by_trying blocked (whole_dec (pos 1)) zero_decimal _ refl);
+}
 
 pub sphere_sums : SphereSums
 unfolding opened_rows

@@ -59,6 +59,13 @@ bounded_by k s = record s { width = record { mant = pos 1; exp = k } }
 abbrev pub SlantedPlane : Type 0
 SlantedPlane = Gives 6 plane_setup slanted_ray Passes (slanted_vertex ∷ slanted_image ∷ [])
 
+-- the distance of the object doesn't matter: rays are given in the vertex plane of surface 1
+abbrev pub near_object : Setup
+near_object = setup_of (record plane { thick = Some (ones 7) } ∷ record plane { thick = Some (ones 4) } ∷ plane ∷ []) (Air ∷ Air ∷ [])
+
+abbrev pub NearObject : Type 0
+NearObject = Gives 6 near_object slanted_ray Passes (slanted_vertex ∷ slanted_image ∷ [])
+
 abbrev pub SphereHeight : Type 0
 SphereHeight =
     Gives 6 air_sphere_setup (level_ray (ones 6)) Passes

@@ -5,6 +5,8 @@ use Rattle.examples.specs.ComputedRows.{Gives, place, headed, about, bounded_by,
 use Rattle.examples.specs.Worked.{level_ray, rim_setup, glass_setup, plane_setup, sphere_setup, slanted_ray, axis_ray}
 use Rattle.lensmodel.specs.Rows.Constants.{residual_units}
 use Rattle.examples.specs.WorkedRow.{span}
+use Rattle.lensmodel.specs.Setup.Values.{zero_decimal}
+use Rattle.lensmodel.specs.declared.launch.Launch.TheVariants.{Plain}
 use Rattle.lensmodel.specs.declared.row.Place.{Place}
 use Rattle.lensmodel.specs.declared.row.Word.TheVariants.{Passes, Vignetted, Undecided, Wide, Lost}
 
@@ -101,3 +103,7 @@ FinestPasses =
     (headed (place (span (pos 0) (pos 2)) (about 1002) (about 2127) (about 500) (about 2876)) (about 1000) (span (pos 599999999998699) (pos 600000000001300)) (span (pos 799999999999599) (pos 800000000000400))
     ∷ place (span (pos 8999999999924184) (pos 9000000000075800)) (about 7008) (span (pos 2999999999987364) (pos 3000000000012633)) (about 500) (span (pos 4999999999991124) (pos 5000000000008883))
     ∷ [])
+
+-- a ray that starts past the cap is lost at surface 1
+abbrev pub StartLost : Type 0
+StartLost = Gives 15 plane_setup (Plain (record { mant = pos 1; exp = pos 30 }) zero_decimal zero_decimal zero_decimal) (Lost 1 Range) []

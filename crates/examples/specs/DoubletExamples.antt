@@ -1,6 +1,6 @@
 -- First-order values and Seidel sums of lenses of more surfaces: an asphere into glass, and behind it a conic, or a mirror and the
 -- way back.
-use Rattle.std.specs.Prelude.{◌≡◌, ℕ, ◌^◌, pos, negsuc, true, [], ◌∷◌, Some}
+use Rattle.std.specs.Prelude.{◌≡◌, ℕ, ◌*◌, ◌^◌, pos, negsuc, true, [], ◌∷◌, Some}
 use Rattle.fixdec.specs.Decimal.{Decimal}
 use Rattle.fixdec.specs.declared.step.Step.TheVariants.{Val, Lost}
 use Rattle.fixdec.specs.declared.step.Why.TheVariants.{Root, Range}
@@ -100,6 +100,12 @@ ManginFirst = first_order mangin (whole_dec (pos 2)) (tenths (pos 1)) ≡ record
 -- the curvature comes before the index: its cause is that of the values
 abbrev pub BlockedFirst : Type 0
 BlockedFirst = (first_order blocked (whole_dec (pos 1)) zero_decimal).efl ≡ Lost Range
+
+-- rays whose rows are lost by range at two scales, at three, and at all
+pub record HighRays : Type 0 where
+  pub at_ninth : (first_order (doublet 2) (decimal (pos (2 * 10 ^ 6)) 0) zero_decimal).scale ≡ 9
+  pub at_sixth : (first_order (doublet 2) (decimal (pos (2 * 10 ^ 9)) 0) zero_decimal).scale ≡ 6
+  pub at_none : (first_order blocked (whole_dec (pos 1)) zero_decimal).scale ≡ 6
 
 -- a marginal ray at the height 1 with the slope 1/10, and a chief ray at 1/2 with -1/5
 abbrev pub doublet_sums : SeidelOut

@@ -7,16 +7,17 @@ ghost use Rattle.examples.specs.ComputedEdges.{BoundMet, BoundPassed, ImageTie, 
 ghost use Rattle.examples.specs.ComputedFolds.{FoldedRay, FoldedBox, FoldedCoarse};
 ghost use Rattle.examples.specs.ComputedForms.{EmptyBox, PlaneInForms, AsphereInForms, OutsideInForms, ReflectedInForms, VignettedInForms, TieInForms, FormDifference, FormQuotient, FormProduct};
 ghost use Rattle.examples.specs.ComputedRounds.{BentParts, FrontParts, SkewParts, SkewRow, SteepRounds};
-ghost use Rattle.examples.specs.ComputedRows.{SlantedPlane, SphereHeight, GlassAxis, MirrorFocus, PastSphere, BehindEquator, TotalReflection, OutsideRim, InsideRim, FanRay, AimedRay};
+ghost use Rattle.examples.specs.ComputedRows.{SlantedPlane, NearObject, SphereHeight, GlassAxis, MirrorFocus, PastSphere, BehindEquator, TotalReflection, OutsideRim, InsideRim, FanRay, AimedRay};
 ghost use Rattle.examples.specs.ComputedSides.{SteepMirror, TwoMirrors, GrazingCoarse};
 ghost use Rattle.examples.specs.ComputedTies.{Touching, AtZero, OfWindow};
 ghost use Rattle.examples.specs.ComputedWidths.{WidePath, WideX, WideY, WideZ, WideL, WideM, WideN};
-ghost use Rattle.examples.specs.ComputedScales.{RimTie, WideBeforeUndecided, VignettedBeforeWide, FinerPasses, SphereEdge, GrazingRay, FarImage, FarthestImage, FinestResidual, LessFarImage, FartherImage, FinestPasses, CoarseResidual, FineResidual};
+ghost use Rattle.examples.specs.ComputedScales.{RimTie, WideBeforeUndecided, VignettedBeforeWide, FinerPasses, SphereEdge, GrazingRay, FarImage, FarthestImage, FinestResidual, LessFarImage, FartherImage, FinestPasses, CoarseResidual, FineResidual, StartLost};
 
-/// Rays that reach the image: through a plane, through a sphere in air, along the axis of a sphere
+/// Rays that reach the image: through a plane, whatever the object's distance, through a sphere in air, along the axis of a sphere
 /// of glass, and by a mirror.
 pub fn rays_pass()
     ensures plane { SlantedPlane }
+    ensures near { NearObject }
     ensures sphere { SphereHeight }
     ensures glass { GlassAxis }
     ensures mirror { MirrorFocus }
@@ -62,6 +63,7 @@ pub fn scales_in_order()
     ensures farthest { FarthestImage }
     ensures edge { SphereEdge }
     ensures grazing { GrazingRay }
+    ensures start { StartLost }
 {}
 
 /// The residual in units of the scales, and a ray that passes by its smallness.

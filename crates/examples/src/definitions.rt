@@ -1,7 +1,7 @@
 //! Small lenses, jobs and spots on which the definitions are worked out: each function does
 //! nothing, and its contract says what the definitions give.
 
-ghost use Rattle.examples.specs.DoubletExamples.{DoubletFirst, StopAtObject, StopAtImage, ManginFirst, BlockedFirst, DoubletSums, HighSums, ManginSums};
+ghost use Rattle.examples.specs.DoubletExamples.{DoubletFirst, StopAtObject, StopAtImage, ManginFirst, BlockedFirst, HighRays, DoubletSums, HighSums, ManginSums};
 ghost use Rattle.examples.specs.ExactChains.{FirstChainMeets, FirstChainHeld, SumsChainMeets, SumsChainHeld};
 ghost use Rattle.examples.specs.JoiningExamples.{Wavelengths, Glasses, Tolerances, WideTolerance};
 ghost use Rattle.examples.specs.LaunchExamples.{FanOfTwo, GridOfOne};
@@ -62,8 +62,8 @@ pub fn joined_setups()
 {}
 
 /// First-order values of a plane, of a sphere with glass behind it, of a mirror, of two surfaces with
-/// the stop at the second, at the object and at the image, of a mirror in glass, and of a lens of
-/// which two rows are lost.
+/// the stop at the second, at the object and at the image, of a mirror in glass, of a lens of which
+/// two rows are lost, and of rays too high for the greater scales.
 pub fn first_order_values()
     ensures plane { PlaneInAir }
     ensures sphere { GlassSphere }
@@ -73,6 +73,7 @@ pub fn first_order_values()
     ensures last_stop { StopAtImage }
     ensures mangin { ManginFirst }
     ensures blocked { BlockedFirst }
+    ensures high { HighRays }
 {}
 
 /// Seidel sums of a sphere with glass behind it, of a paraboloid that reflects, of two surfaces, and

@@ -1,4 +1,4 @@
-use Rattle.examples.proofs.FirstOrderExamples.{plane_in_air, glass_sphere, mirror_focus, doublet_first, stop_at_object, stop_at_image, mangin_first, blocked_first}
+use Rattle.examples.proofs.FirstOrderExamples.{plane_in_air, glass_sphere, mirror_focus, doublet_first, stop_at_object, stop_at_image, mangin_first, blocked_first, high_rays}
 use Rattle.examples.proofs.definitions.first_order_values.Goals as goal
 
 pub returns-clause-plane : goal.returns-clause-plane
@@ -24,3 +24,6 @@ returns-clause-mangin c = mangin_first
 
 pub returns-clause-blocked : goal.returns-clause-blocked
 returns-clause-blocked c = blocked_first
+
+pub returns-clause-high : goal.returns-clause-high
+returns-clause-high c = high_rays
