@@ -3,51 +3,33 @@ use Rattle.std.proofs.Common.{◌≡◌, ℕ, subst, refl}
 use Rattle.std.specs.Prelude.{pos, negsuc}
 use Rattle.fixdec.specs.Decimal.{Decimal}
 use Rattle.fixdec.specs.Ends.{Ends}
-use Rattle.fixdec.specs.Form.{LinearForm, linear_operations, lin_of_span, lin_plus, lin_minus, lin_times, lin_over, lin_widen, lin_shift, lin_clip, lin_symbol}
+use Rattle.fixdec.specs.Form.{lin_of_span, lin_plus, lin_minus, lin_times, lin_over, lin_widen, lin_shift, lin_clip, lin_symbol}
 use Rattle.fixdec.specs.IntervalOperations.{operations}
-use Rattle.fixdec.specs.Operations.{Operations}
 use Rattle.fixdec.specs.declared.step.Step.{Step}
 use Rattle.examples.specs.ComputedBoxes.{ThicknessBox, PlateBox, FlatIndex, CrownIndex, HeavyIndex, boxed, plate_setup, crown_glass, heavy_glass}
-use Rattle.examples.specs.ComputedForms.{row_in_forms}
 use Rattle.examples.specs.ComputedRows.{ones, tenths}
 use Rattle.lensmodel.specs.Rows.Constants.{residual_units}
-use Rattle.lensmodel.specs.Rows.Outcome.{Outcome, outcome_at, row_of}
 use Rattle.lensmodel.specs.Rows.Preparation.{medium_row}
 use Rattle.examples.specs.Worked.{flat_glass, plane_setup, slanted_ray}
 use Rattle.lensmodel.specs.declared.glass.Glass.{Glass}
 use Rattle.lensmodel.specs.declared.glass.Medium.TheVariants.{Of}
-use Rattle.lensmodel.specs.declared.launch.Launch.{Launch}
-use Rattle.lensmodel.specs.declared.setup.Setup.{Setup}
 use Rattle.lensmodel.specs.declared.tolerance.TolKind.TheVariants.{Thic, Indx}
 use Rattle.examples.proofs.ComputedRows.{opened}
-use Rattle.examples.proofs.TriedForms.{linear_by, same_linear}
+use Rattle.examples.proofs.TriedCells.{boxed_row_by_trying}
 use Rattle.examples.proofs.TriedRoots.{operations_by, tried_root, same_operations}
-
--- an outcome in linear arithmetic may be computed with roots that are tried
-pub forms_by_trying : (scale : ℕ) (s : Setup) (ray : Launch) (x : Outcome)
-    → outcome_at (linear_by tried_root scale) scale s ray ≡ x → outcome_at (linear_operations scale) scale s ray ≡ x
-forms_by_trying scale s ray x h = subst (λ o. outcome_at (o scale) scale s ray ≡ x) same_linear h
-
--- and so may a row
-unfoldable pub form_row_by : (ℕ → Operations LinearForm) → Setup → Launch → Outcome
-form_row_by o s ray = row_of (outcome_at (o 6) 6 s ray) (outcome_at (o 9) 9 s ray) (outcome_at (o 12) 12 s ray) (outcome_at (o 15) 15 s ray)
-
-pub form_row_by_trying : (s : Setup) (ray : Launch) (x : Outcome) → form_row_by (linear_by tried_root) s ray ≡ x → row_in_forms s ray ≡ x
-unfolding form_row_by
-form_row_by_trying s ray x h = subst (λ o. form_row_by o s ray ≡ x) same_linear h
 
 -- what is opened to compute in linear arithmetic
 unfoldable pub opened_forms : ℕ
-unfolding opened form_row_by lin_of_span lin_plus lin_minus lin_times lin_over lin_widen lin_shift lin_clip lin_symbol
+unfolding opened lin_of_span lin_plus lin_minus lin_times lin_over lin_widen lin_shift lin_clip lin_symbol
 opened_forms = 0
 
 pub thickness_box : ThicknessBox
 unfolding opened_forms
-thickness_box = forms_by_trying 6 (boxed (record { kind = Thic; surface = 1; delta = tenths 1 }) (ones 2) plane_setup) slanted_ray _ refl
+thickness_box = boxed_row_by_trying (boxed (record { kind = Thic; surface = 1; delta = tenths 1 }) (ones 2) plane_setup) slanted_ray _ refl refl
 
 pub plate_box : PlateBox
 unfolding opened_forms
-plate_box = forms_by_trying 6 (boxed (record { kind = Indx; surface = 1; delta = record { mant = pos 1; exp = negsuc 1 } }) (ones 1) plate_setup) slanted_ray _ refl
+plate_box = boxed_row_by_trying (boxed (record { kind = Indx; surface = 1; delta = record { mant = pos 1; exp = negsuc 1 } }) (ones 1) plate_setup) slanted_ray _ refl refl
 
 -- so may an index at scale 12
 index_by_trying : (g : Glass) (wave : Decimal) (x : Step Ends)

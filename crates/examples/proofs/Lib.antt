@@ -9,7 +9,11 @@ pub mod ComputedFolds
 pub mod ComputedForms
 pub mod ComputedRounds
 pub mod ComputedRows
+pub mod ComputedSides
+pub mod ComputedTies
+pub mod ComputedWidths
 pub mod Concrete
+pub mod ExactChains
 pub mod Exchange
 mod FirstOrderExamples
 pub mod Flat

@@ -1,7 +1,7 @@
--- Where a line meets an even asphere, with the cells' arithmetic as an argument.
+-- Rows with the cells' arithmetic as an argument: they may be computed with roots that are tried.
 use Rattle.std.proofs.Common.{◌≡◌, ℕ, zero, suc, [], ap, sym, subst, ◌∙◌, refl}
 use Rattle.std.proofs.Math.Path.{fun_ext}
-use Rattle.std.specs.Prelude.{ℤ, None}
+use Rattle.std.specs.Prelude.{ℤ, Some, None}
 use Rattle.fixdec.specs.Ends.{Ends}
 use Rattle.fixdec.specs.Form.{linear_operations}
 use Rattle.fixdec.specs.IntervalOperations.{operations}
@@ -10,74 +10,86 @@ use Rattle.fixdec.specs.Steps.{◌>>=◌}
 use Rattle.fixdec.specs.declared.step.Step.{Step}
 use Rattle.fixdec.specs.declared.step.Step.TheVariants.{Val, Empty, Lost}
 use Rattle.fixdec.specs.declared.step.Why.TheVariants.{Root}
-use Rattle.examples.specs.ComputedRows.{row_in_intervals}
 use Rattle.lensmodel.specs.Rows.Constants.{residual_units}
-use Rattle.lensmodel.specs.Rows.Crossing.{Met, foot_rows, meet_standard_rows}
-use Rattle.lensmodel.specs.Rows.Hit.{hit_rows, meet_by, point_rows}
+use Rattle.lensmodel.specs.Rows.Cells.{window_row, is_kept, cells, kept_hull, cell_rows, pruned}
+use Rattle.lensmodel.specs.Rows.Crossing.{Met, Line, arrival_rows, along_row, meet_standard_rows}
+use Rattle.lensmodel.specs.Rows.Hit.{meet_by, meet_rows, point_rows, hit_rows}
 use Rattle.lensmodel.specs.Rows.Outcome.{Outcome, Walked, ends_with, at_hit, at_prepared, walk, started, walked, word_of, places_of, outcome_at, row_of}
 use Rattle.lensmodel.specs.Rows.Preparation.{Prepared, preparation_rows}
+use Rattle.lensmodel.specs.Rows.Ray.{as_row, row_by, row_with, row}
 use Rattle.lensmodel.specs.Rows.Sag.{sag_rows}
-use Rattle.lensmodel.specs.Rows.SlopeRounds.{up_to, window_row, is_kept, cells, kept_hull, hulls, zone2_of, round_rows, narrowed, last_answer, meet_asphere_rows}
+use Rattle.lensmodel.specs.Rows.SlopeRounds.{hulls, line_hulls, zone2_of, next_rows, narrowed, pruned_window, last_window, last_answer, meet_asphere_rows}
+use Rattle.lensmodel.specs.Rows.Spans.{up_to}
 use Rattle.lensmodel.specs.Rows.Start.{Incoming, start_rows}
 use Rattle.lensmodel.specs.Setup.Values.{image}
 use Rattle.lensmodel.specs.declared.launch.Launch.{Launch}
+use Rattle.lensmodel.specs.declared.row.Row.{Row}
 use Rattle.lensmodel.specs.declared.row.Word.TheVariants as word
 use Rattle.lensmodel.specs.declared.setup.Setup.{Setup}
 use Rattle.lensmodel.specs.declared.surface.SurfaceKind.{SurfaceKind}
 use Rattle.lensmodel.specs.declared.surface.SurfaceKind.TheVariants.{Standard, EvenAsph}
+use Rattle.lensmodel.specs.declared.tolerance.TolBox.{TolBox}
 use Rattle.examples.proofs.TriedForms.{linear_by, same_linear}
 use Rattle.examples.proofs.TriedRoots.{operations_by, tried_root, same_operations}
 
 module _ (cell : Operations Ends) (scale : ℕ) where
-  abbrev pub cell_by : Prepared Ends → Ends → Ends → Ends → Ends → Ends → Ends → ℤ → Step Ends
-  cell_by face zone2 x0 y0 p q z e = do
-    x2 ← cell.square (← cell.plus x0 (← cell.times p z))
-    y2 ← cell.square (← cell.plus y0 (← cell.times q z))
+  abbrev pub cell_by : Prepared Ends → Ends → Line Ends → ℤ → Ends → Step Ends
+  cell_by face zone2 line e z = do
+    x2 ← cell.square (← along_row cell line.x0 line.p z)
+    y2 ← cell.square (← along_row cell line.y0 line.q z)
     rho ← cell.clip (← cell.plus x2 y2) (up_to zone2)
     cell.widen (← sag_rows cell scale face rho e) e
 
-  abbrev pub pruned_by : Prepared Ends → Ends → Ends → Ends → Ends → Ends → ℤ → Ends → Step Ends
-  pruned_by face zone2 x0 y0 p q e a = kept_hull scale (λ z. is_kept scale z (cell_by face zone2 x0 y0 p q z e)) (cells scale a)
+  abbrev pub pruned_by : Prepared Ends → Ends → Line Ends → ℤ → Ends → Step Ends
+  pruned_by face zone2 line e a = kept_hull (λ z. is_kept z (cell_by face zone2 line e z)) (cells a)
 
 module _ {A : Type 0} (cell : Operations Ends) (o : Operations A) (scale : ℕ) where
-  abbrev meet_cells_by : Prepared A → A → A → A → A → ℤ → Step A
-  meet_cells_by face x0 y0 p q e = do
-    w0 ← window_row scale (hulls o scale face) (zone2_of o scale face) e
-    w1 ← pruned_by cell scale (hulls o scale face) (zone2_of o scale face) (o.hull x0) (o.hull y0) (o.hull p) (o.hull q) e w0
-    w2 ← pruned_by cell scale (hulls o scale face) (zone2_of o scale face) (o.hull x0) (o.hull y0) (o.hull p) (o.hull q) e w1
-    w3 ← narrowed o scale w2 (round_rows o scale face x0 y0 p q e w2)
-    w4 ← narrowed o scale w3 (round_rows o scale face x0 y0 p q e w3)
-    w5 ← narrowed o scale w4 (round_rows o scale face x0 y0 p q e w4)
-    last_answer o scale w5 (round_rows o scale face x0 y0 p q e w5)
+  abbrev pruned_window_by : Prepared A → Line A → ℤ → Step Ends
+  pruned_window_by face line e = do
+    first ← window_row scale (hulls o face) (zone2_of o face) e
+    second ← pruned_by cell scale (hulls o face) (zone2_of o face) (line_hulls o line) e first
+    pruned_by cell scale (hulls o face) (zone2_of o face) (line_hulls o line) e second
 
-  abbrev meet_kind_by : SurfaceKind → Prepared A → A → A → A → A → ℤ → Step A
-  meet_kind_by Standard face x0 y0 p q e = meet_standard_rows o scale face x0 y0 p q e
-  meet_kind_by EvenAsph face x0 y0 p q e = meet_cells_by face x0 y0 p q e
+  abbrev last_window_by : Prepared A → Line A → ℤ → Step Ends
+  last_window_by face line e = do
+    first ← pruned_window_by face line e
+    second ← narrowed o scale first (next_rows o scale face line e first)
+    third ← narrowed o scale second (next_rows o scale face line e second)
+    narrowed o scale third (next_rows o scale face line e third)
+
+  abbrev meet_cells_by : Prepared A → Line A → ℤ → Step A
+  meet_cells_by face line e = do
+    a ← last_window_by face line e
+    last_answer o scale a (next_rows o scale face line e a)
+
+  abbrev meet_kind_by : SurfaceKind → Prepared A → Line A → ℤ → Step A
+  meet_kind_by Standard face line e = meet_standard_rows o scale face line e
+  meet_kind_by EvenAsph face line e = meet_cells_by face line e
 
   abbrev pub hit_by : Prepared A → Incoming A → ℤ → Step (Met A)
   hit_by face ray e = do
-    foot ← foot_rows o scale face ray e
-    z ← meet_kind_by face.kind face foot.x0 foot.y0 foot.p foot.q e
-    point_rows o scale face.kind face ray foot z e
+    arrival ← arrival_rows o face ray e
+    z ← meet_kind_by face.kind face arrival.line e
+    point_rows o scale face.kind face ray arrival z e
 
-same_meet : {A : Type 0} (o : Operations A) (scale : ℕ) (face : Prepared A) (x0 y0 p q : A) (e : ℤ)
-    → meet_cells_by (operations scale) o scale face x0 y0 p q e ≡ meet_asphere_rows o scale face x0 y0 p q e
-unfolding meet_asphere_rows
-same_meet o scale face x0 y0 p q e = refl
+same_meet : {A : Type 0} (o : Operations A) (scale : ℕ) (face : Prepared A) (line : Line A) (e : ℤ)
+    → meet_cells_by (operations scale) o scale face line e ≡ meet_asphere_rows o scale face line e
+unfolding meet_asphere_rows last_window pruned_window pruned cell_rows
+same_meet o scale face line e = refl
 
-same_kinds : {A : Type 0} (o : Operations A) (scale : ℕ) (kind : SurfaceKind) (face : Prepared A) (x0 y0 p q : A) (e : ℤ)
-    → meet_kind_by (operations scale) o scale kind face x0 y0 p q e ≡ meet_by o scale kind face x0 y0 p q e
-same_kinds o scale Standard face x0 y0 p q e = refl
-same_kinds o scale EvenAsph face x0 y0 p q e = same_meet o scale face x0 y0 p q e
+same_kinds : {A : Type 0} (o : Operations A) (scale : ℕ) (kind : SurfaceKind) (face : Prepared A) (line : Line A) (e : ℤ)
+    → meet_kind_by (operations scale) o scale kind face line e ≡ meet_by o scale kind face line e
+same_kinds o scale Standard face line e = refl
+same_kinds o scale EvenAsph face line e = same_meet o scale face line e
 
 same_then : {A B : Type 0} (r : Step A) (f g : A → Step B) → ((a : A) → f a ≡ g a) → r >>= f ≡ r >>= g
 same_then r f g h = ap (λ k. r >>= k) (fun_ext h)
 
 same_hit : {A : Type 0} (o : Operations A) (scale : ℕ) (face : Prepared A) (ray : Incoming A) (e : ℤ)
     → hit_by (operations scale) o scale face ray e ≡ hit_rows o scale face ray e
-unfolding hit_rows
+unfolding hit_rows meet_rows
 same_hit o scale face ray e =
-    same_then (foot_rows o scale face ray e) _ _ (λ foot. ap (λ r. r >>= (λ z. point_rows o scale face.kind face ray foot z e)) (same_kinds o scale face.kind face foot.x0 foot.y0 foot.p foot.q e))
+    same_then (arrival_rows o face ray e) _ _ (λ arrival. ap (λ r. r >>= (λ z. point_rows o scale face.kind face ray arrival z e)) (same_kinds o scale face.kind face arrival.line e))
 
 -- ---- a walk with the crossing phase as an argument
 module _ {A : Type 0} (hit : Prepared A → Incoming A → ℤ → Step (Met A)) (o : Operations A) (scale : ℕ) (s : Setup) (e : ℤ) where
@@ -125,34 +137,41 @@ same_outcome : {A : Type 0} (o : Operations A) (scale : ℕ) (s : Setup) (ray : 
 unfolding outcome_at walked
 same_outcome o scale s ray = ap (finished scale s) (same_start o scale s (residual_units scale s.res) (start_rows o scale ray (residual_units scale s.res)))
 
--- an outcome may be computed with roots that are tried in the cells too
-pub asphere_by_trying : (scale : ℕ) (s : Setup) (ray : Launch) (x : Outcome)
-    → outcome_by (hit_by (operations_by tried_root scale) (operations_by tried_root scale) scale) (operations_by tried_root scale) scale s ray ≡ x
-    → outcome_at (operations scale) scale s ray ≡ x
-asphere_by_trying scale s ray x h =
-    let hits : hit_by (operations scale) (operations scale) scale ≡ hit_rows (operations scale) scale =
-    fun_ext (λ face. fun_ext (λ ray. fun_ext (λ e. same_hit (operations scale) scale face ray e))) in
-    sym (ap (λ hit. outcome_by hit (operations scale) scale s ray) hits ∙ same_outcome (operations scale) scale s ray)
-    ∙ subst (λ o. outcome_by (hit_by (o scale) (o scale) scale) (o scale) scale s ray ≡ x) same_operations h
+-- ---- a row with the cells' arithmetic as an argument
+abbrev pub outcome_with_cells : {A : Type 0} → (ℕ → Operations Ends) → (ℕ → Operations A) → Setup → Launch → ℕ → Outcome
+outcome_with_cells c o s ray scale = outcome_by (hit_by (c scale) (o scale) scale) (o scale) scale s ray
 
-pub asphere_forms_by_trying : (scale : ℕ) (s : Setup) (ray : Launch) (x : Outcome)
-    → outcome_by (hit_by (operations_by tried_root scale) (linear_by tried_root scale) scale) (linear_by tried_root scale) scale s ray ≡ x
-    → outcome_at (linear_operations scale) scale s ray ≡ x
-asphere_forms_by_trying scale s ray x h =
-    let hits : hit_by (operations scale) (linear_operations scale) scale ≡ hit_rows (linear_operations scale) scale =
-    fun_ext (λ face. fun_ext (λ ray. fun_ext (λ e. same_hit (linear_operations scale) scale face ray e))) in
-    sym (ap (λ hit. outcome_by hit (linear_operations scale) scale s ray) hits ∙ same_outcome (linear_operations scale) scale s ray)
-    ∙ subst (λ c. outcome_by (hit_by (c scale) (linear_operations scale) scale) (linear_operations scale) scale s ray ≡ x) same_operations
-    (subst (λ o. outcome_by (hit_by (operations_by tried_root scale) (o scale) scale) (o scale) scale s ray ≡ x) same_linear h)
+unfoldable pub row_with_cells : {A : Type 0} → (ℕ → Operations Ends) → (ℕ → Operations A) → Setup → Launch → Row
+row_with_cells c o s ray =
+    as_row (row_of (outcome_with_cells c o s ray 6) (outcome_with_cells c o s ray 9) (outcome_with_cells c o s ray 12) (outcome_with_cells c o s ray 15))
 
--- the row of a ray from such outcomes
-abbrev tried_at : Setup → Launch → ℕ → Outcome
-tried_at s ray scale = outcome_by (hit_by (operations_by tried_root scale) (operations_by tried_root scale) scale) (operations_by tried_root scale) scale s ray
+same_at : {A : Type 0} (o : ℕ → Operations A) (s : Setup) (ray : Launch) (scale : ℕ) → outcome_with_cells operations o s ray scale ≡ outcome_at (o scale) scale s ray
+same_at o s ray scale =
+    ap (λ hit. outcome_by hit (o scale) scale s ray) (fun_ext (λ face. fun_ext (λ ray. fun_ext (λ e. same_hit (o scale) scale face ray e))))
+    ∙ same_outcome (o scale) scale s ray
 
-abbrev pub row_of_tried : Setup → Launch → Outcome
-row_of_tried s ray = row_of (tried_at s ray 6) (tried_at s ray 9) (tried_at s ray 12) (tried_at s ray 15)
+same_row : {A : Type 0} (o : ℕ → Operations A) (s : Setup) (ray : Launch) → row_with_cells operations o s ray ≡ row_by o s ray
+unfolding row_with_cells
+same_row o s ray = ap (λ at. as_row (row_of (at 6) (at 9) (at 12) (at 15))) (fun_ext (same_at o s ray))
 
-pub asphere_row_by_trying : (s : Setup) (ray : Launch) (x : Outcome) → row_of_tried s ray ≡ x → row_in_intervals s ray ≡ x
-asphere_row_by_trying s ray x h =
-    let same : (scale : ℕ) → outcome_at (operations scale) scale s ray ≡ tried_at s ray scale = λ scale. asphere_by_trying scale s ray _ refl in
-    ap (λ at. row_of (at 6) (at 9) (at 12) (at 15)) (fun_ext same) ∙ h
+-- a row may be computed with roots that are tried: without a box
+pub row_by_trying : (s : Setup) (ray : Launch) (x : Row) → s.toler ≡ None
+    → row_with_cells (operations_by tried_root) (operations_by tried_root) s ray ≡ x → row s ray ≡ x
+unfolding row
+row_by_trying s ray x plain h =
+    ap (λ t. row_with t s ray) plain ∙ sym (same_row operations s ray) ∙ subst (λ o. row_with_cells o o s ray ≡ x) same_operations h
+
+-- and with one
+pub boxed_row_by_trying : {box : TolBox} (s : Setup) (ray : Launch) (x : Row) → s.toler ≡ Some box
+    → row_with_cells (operations_by tried_root) (linear_by tried_root) s ray ≡ x → row s ray ≡ x
+unfolding row
+boxed_row_by_trying s ray x boxed h =
+    ap (λ t. row_with t s ray) boxed ∙ sym (same_row linear_operations s ray)
+    ∙ subst (λ c. row_with_cells c linear_operations s ray ≡ x) same_operations
+    (subst (λ o. row_with_cells (operations_by tried_root) o s ray ≡ x) same_linear h)
+
+-- so may an outcome at one scale
+pub outcome_by_trying : (scale : ℕ) (s : Setup) (ray : Launch) (x : Outcome)
+    → outcome_with_cells (operations_by tried_root) (operations_by tried_root) s ray scale ≡ x → outcome_at (operations scale) scale s ray ≡ x
+outcome_by_trying scale s ray x h =
+    sym (same_at operations s ray scale) ∙ subst (λ o. outcome_with_cells o o s ray scale ≡ x) same_operations h

@@ -1,11 +1,13 @@
 -- Rows of worked even aspheres in interval arithmetic, number for number.
 use Rattle.std.specs.Prelude.{◌≡◌, pos, negsuc, [], ◌∷◌, Some}
 use Rattle.fixdec.specs.declared.step.Why.TheVariants.{Root, Range}
-use Rattle.examples.specs.ComputedRows.{Gives, row_in_intervals, outcome, place, headed, about, ones, tenths}
-use Rattle.examples.specs.Worked.{level_ray, far_object, setup_of}
+use Rattle.examples.specs.ComputedRows.{Gives, place, headed, about, ones, tenths}
+use Rattle.examples.specs.Worked.{flat_glass, level_ray, far_object, setup_of}
+use Rattle.fixdec.specs.IntervalOperations.{operations}
+use Rattle.lensmodel.specs.Rows.Outcome.{outcome_at}
 use Rattle.lensmodel.specs.Setup.Values.{zero_decimal, plane}
 use Rattle.examples.specs.WorkedRow.{span}
-use Rattle.lensmodel.specs.declared.glass.Medium.TheVariants.{Air}
+use Rattle.lensmodel.specs.declared.glass.Medium.TheVariants.{Air, Of}
 use Rattle.lensmodel.specs.declared.launch.Launch.{Launch}
 use Rattle.lensmodel.specs.declared.launch.Launch.TheVariants.{Plain}
 use Rattle.lensmodel.specs.declared.row.Word.TheVariants.{Passes, Outside, Lost}
@@ -62,7 +64,7 @@ steep_ray = Plain zero_decimal (record { mant = pos 375; exp = negsuc 2 }) zero_
 
 -- its window makes squares past the cap
 abbrev pub BowlLost : Type 0
-BowlLost = row_in_intervals (asphere_setup bowl) steep_ray ≡ outcome 15 (Lost 1 Range) []
+BowlLost = Gives 15 (asphere_setup bowl) steep_ray (Lost 1 Range) []
 
 -- the same bowl as a paraboloid: the ray crosses it at the height 1/2, where the sag is 0.025
 abbrev pub paraboloid : Surface
@@ -70,12 +72,54 @@ paraboloid = record plane { curv = tenths 2; conic = record { mant = negsuc 0; e
 
 abbrev pub BowlAsConic : Type 0
 BowlAsConic =
-    row_in_intervals (asphere_setup paraboloid) steep_ray
-    ≡ outcome 9 Passes
+    Gives 9 (asphere_setup paraboloid) steep_ray Passes
     (headed (place (span (pos 249999970) (pos 250000032)) (about 3) (span (pos 499999970) (pos 500000030)) (span (pos 24999996) (pos 25000004)) (span (pos 127475460) (pos 127475516))) (about 1) (span (pos 980580664) (pos 980580686)) (span (pos 196116133) (pos 196116137))
     ∷ place (span (pos 415140604951) (pos 415140645051)) (about 29) (span (pos 20374999508) (pos 20375000492)) (about 1) (span (pos 20396077802) (pos 20396078336))
     ∷ [])
 
 -- at scale 12 its squares are within the cap, and no slope round tells the two crossings apart
 abbrev pub BowlRoot : Type 0
-BowlRoot = Gives 12 (asphere_setup bowl) steep_ray (Lost 1 Root) []
+BowlRoot = outcome_at (operations 12) 12 (asphere_setup bowl) steep_ray ≡ record { scale = 12; word = Lost 1 Root; places = [] }
+
+abbrev pub wide_bowl : Surface
+wide_bowl = record plane { kind = EvenAsph; thick = Some record { mant = pos 1; exp = pos 1 }; semi = Some (ones 9); a1 = tenths 1 }
+
+abbrev pub far_conic : Surface
+far_conic = record plane { kind = EvenAsph; curv = tenths 1; conic = ones 4; thick = Some (ones 4); semi = Some (ones 5); a2 = record { mant = pos 1; exp = negsuc 3 } }
+
+-- a surface into glass FLAT
+abbrev pub into_glass : Surface → Setup
+into_glass surface = setup_of (far_object ∷ surface ∷ plane ∷ []) (Air ∷ Of flat_glass ∷ [])
+
+-- a bowl so wide that a ray at its edge crosses it in the last of the 64 cells, where the sag is nearly the window's end
+abbrev pub LastCell : Type 0
+LastCell =
+    Gives 6 (asphere_setup wide_bowl) (level_ray (record { mant = pos 989; exp = negsuc 1 })) Passes
+    (headed (place (span (pos 97811664) (pos 97812537)) (about 22) (span (pos 9889978) (pos 9890022)) (span (pos 9781156) (pos 9781264)) (span (pos 9781144) (pos 9781276))) (about 1) (about 1) (span (pos 999999) (pos 1000001))
+    ∷ place (span (pos 97811605) (pos 97812596)) (about 25) (span (pos 9889975) (pos 9890025)) (about 1) (span (pos 9999876) (pos 10000124))
+    ∷ [])
+
+-- an even asphere of the conic constant 4, into glass
+abbrev pub ConicAsphere : Type 0
+ConicAsphere =
+    Gives 6 (into_glass far_conic) (level_ray (ones 3)) Passes
+    (headed (place (span (pos 8999976) (pos 9000026)) (about 4) (span (pos 2999996) (pos 3000004)) (span (pos 524852) (pos 524868)) (span (pos 524849) (pos 524871))) (about 3) (span (negsuc 134671) (negsuc 134642)) (span (pos 990867) (pos 990919))
+    ∷ place (span (pos 6389125) (pos 6389875)) (about 20) (span (pos 2527672) (pos 2527820)) (about 1) (span (pos 5785308) (pos 5785649))
+    ∷ [])
+
+abbrev pub small_bowl : Surface
+small_bowl = record plane { kind = EvenAsph; thick = Some (ones 1); semi = Some record { mant = pos 5000005; exp = negsuc 6 }; a1 = tenths 1 }
+
+-- a zone whose square is from 0.3025 to 0.302502 at scale 6, and a ray whose rho begins between them
+abbrev pub ZoneSquare : Type 0
+ZoneSquare =
+    Gives 6 (asphere_setup small_bowl) (level_ray (record { mant = pos 550005; exp = negsuc 5 })) Passes
+    (headed (place (span (pos 302502) (pos 302502)) (about 3) (span (pos 550002) (pos 550008)) (span (pos 30246) (pos 30255)) (span (pos 30243) (pos 30258))) (about 1) (about 1) (span (pos 999999) (pos 1000001))
+    ∷ place (span (pos 302497) (pos 302515)) (about 7) (span (pos 549998) (pos 550012)) (about 1) (span (pos 999984) (pos 1000016))
+    ∷ [])
+
+-- at the edge of a sphere that is written as an even asphere no slope round is made
+abbrev pub AsphereEdge : Type 0
+AsphereEdge =
+    Gives 15 (into_glass (record spherical { semi = Some record { mant = pos 1; exp = pos 1 } })) (level_ray (record { mant = pos 1; exp = pos 1 })) (Lost 1 Root)
+    []

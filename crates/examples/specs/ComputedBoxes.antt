@@ -1,12 +1,10 @@
 -- Rows of worked setups with a box, in linear arithmetic, and indices of worked glasses, number for number.
 use Rattle.std.specs.Prelude.{◌≡◌, ℕ, pos, negsuc, [], ◌∷◌, List, Some}
 use Rattle.fixdec.specs.Decimal.{Decimal}
-use Rattle.fixdec.specs.Form.{linear_operations}
 use Rattle.fixdec.specs.IntervalOperations.{operations}
 use Rattle.fixdec.specs.declared.step.Step.TheVariants.{Val}
-use Rattle.examples.specs.ComputedRows.{outcome, place, headed, about, ones, tenths}
+use Rattle.examples.specs.ComputedRows.{Gives, place, headed, about, ones, tenths}
 use Rattle.lensmodel.specs.Rows.Constants.{residual_units}
-use Rattle.lensmodel.specs.Rows.Outcome.{outcome_at}
 use Rattle.lensmodel.specs.Rows.Preparation.{medium_row}
 use Rattle.lensmodel.specs.Setup.Values.{plane}
 use Rattle.examples.specs.Worked.{flat_name, flat_glass, far_object, setup_of, plane_setup, slanted_ray}
@@ -21,10 +19,6 @@ use Rattle.lensmodel.specs.declared.setup.Setup.{Setup}
 use Rattle.lensmodel.specs.declared.tolerance.Tol.{Tol}
 use Rattle.lensmodel.specs.declared.tolerance.TolKind.TheVariants.{Thic, Indx}
 
--- what a ray gives at a scale, in linear arithmetic
-abbrev pub GivesInForms : ℕ → Setup → Launch → Word → List Place → Type 0
-GivesInForms scale s ray word places = outcome_at (linear_operations scale) scale s ray ≡ outcome scale word places
-
 -- a setup with one tolerance and another bound on widths
 abbrev pub boxed : Tol → Decimal → Setup → Setup
 boxed t width s = record s { width = width; toler = Some (record { list = record { items = t ∷ [] } }) }
@@ -38,7 +32,7 @@ plate_setup =
 -- the slanted ray, where the thickness 4 may be off by a tenth: y at the image spans 2.925 to 3.075
 abbrev pub ThicknessBox : Type 0
 ThicknessBox =
-    GivesInForms 6 (boxed (record { kind = Thic; surface = 1; delta = tenths 1 }) (ones 2) plane_setup) slanted_ray Passes
+    Gives 6 (boxed (record { kind = Thic; surface = 1; delta = tenths 1 }) (ones 2) plane_setup) slanted_ray Passes
     (headed (place (about 2) (about 3) (about 3) (about 1) (about 5)) (about 1) (span (pos 599997) (pos 600003)) (span (pos 799998) (pos 800002))
     ∷ place (span (pos 8544152) (pos 9455848)) (about 18) (span (pos 2924964) (pos 3075036)) (about 1) (span (pos 4874976) (pos 5125024))
     ∷ [])
@@ -46,7 +40,7 @@ ThicknessBox =
 -- the slanted ray through the plate, whose index may be off by a hundredth: behind it the symbol has left M
 abbrev pub PlateBox : Type 0
 PlateBox =
-    GivesInForms 6 (boxed (record { kind = Indx; surface = 1; delta = record { mant = pos 1; exp = negsuc 1 } }) (ones 1) plate_setup) slanted_ray Passes
+    Gives 6 (boxed (record { kind = Indx; surface = 1; delta = record { mant = pos 1; exp = negsuc 1 } }) (ones 1) plate_setup) slanted_ray Passes
     (headed (place (about 2) (about 3) (about 3) (about 1) (about 5)) (about 4) (span (pos 397307) (pos 402693)) (span (pos 915268) (pos 917760))
     ∷ headed (place (span (pos 2997971) (pos 3097273)) (about 30) (span (pos 1731582) (pos 1759906)) (about 1) (span (pos 6510517) (pos 6582571))) (about 10) (span (pos 599921) (pos 600079)) (span (pos 799391) (pos 800601))
     ∷ place (span (pos 6154515) (pos 6302991)) (about 47) (span (pos 2480919) (pos 2510575)) (about 1) (span (pos 7759570) (pos 7833530))

@@ -1,9 +1,8 @@
--- Rows of worked setups in interval arithmetic: their words and places, number for number.
+-- Rows of worked setups: their scales, words and places, number for number.
 use Rattle.std.specs.Prelude.{◌≡◌, ℕ, ℤ, pos, negsuc, neg_ℤ, [], ◌∷◌, List, Some, None}
 use Rattle.fixdec.specs.Decimal.{Decimal}
 use Rattle.fixdec.specs.Ends.{Ends}
-use Rattle.fixdec.specs.IntervalOperations.{operations}
-use Rattle.lensmodel.specs.Rows.Outcome.{Outcome, outcome_at, row_of}
+use Rattle.lensmodel.specs.Rows.Ray.{row}
 use Rattle.lensmodel.specs.Setup.Values.{zero_decimal, plane}
 use Rattle.examples.specs.Worked.{far_object, setup_of, plane_setup, slanted_ray, sphere_setup, axis_ray, glass_setup, rim_setup, level_ray, mirror_setup}
 use Rattle.examples.specs.WorkedRow.{span, slanted_vertex, slanted_image, axis_vertex, axis_image}
@@ -15,10 +14,7 @@ use Rattle.lensmodel.specs.declared.row.Word.{Word}
 use Rattle.lensmodel.specs.declared.row.Word.TheVariants.{Passes, Vignetted, Outside, Tir}
 use Rattle.lensmodel.specs.declared.setup.Setup.{Setup}
 
--- ---- how outcomes are written
-abbrev pub outcome : ℕ → Word → List Place → Outcome
-outcome scale word places = record { scale = scale; word = word; places = places }
-
+-- ---- how rows are written
 -- raw numbers from -n to n
 abbrev pub about : ℕ → Ends
 about n = span (neg_ℤ (pos n)) (pos n)
@@ -31,14 +27,9 @@ place rho x y z path = record { rho = rho; x = x; y = y; z = z; path = path; hea
 abbrev pub headed : Place → Ends → Ends → Ends → Place
 headed p l m n = record p { heading = Some (record { l = l; m = m; n = n }) }
 
--- what a ray gives at a scale, in intervals
+-- what the row of a ray is: its scale, its word and its places
 abbrev pub Gives : ℕ → Setup → Launch → Word → List Place → Type 0
-Gives scale s ray word places = outcome_at (operations scale) scale s ray ≡ outcome scale word places
-
--- the row of a ray in intervals, from the outcomes at the four scales
-abbrev pub row_in_intervals : Setup → Launch → Outcome
-row_in_intervals s ray =
-    row_of (outcome_at (operations 6) 6 s ray) (outcome_at (operations 9) 9 s ray) (outcome_at (operations 12) 12 s ray) (outcome_at (operations 15) 15 s ray)
+Gives scale s ray word places = row s ray ≡ record { scale = scale; word = word; places = record { items = places } }
 
 -- ---- decimals, rays and setups
 -- n, and n tenths
@@ -67,6 +58,13 @@ bounded_by k s = record s { width = record { mant = pos 1; exp = k } }
 -- ---- rows that reach the image
 abbrev pub SlantedPlane : Type 0
 SlantedPlane = Gives 6 plane_setup slanted_ray Passes (slanted_vertex ∷ slanted_image ∷ [])
+
+-- the distance of the object doesn't matter: rays are given in the vertex plane of surface 1
+abbrev pub near_object : Setup
+near_object = setup_of (record plane { thick = Some (ones 7) } ∷ record plane { thick = Some (ones 4) } ∷ plane ∷ []) (Air ∷ Air ∷ [])
+
+abbrev pub NearObject : Type 0
+NearObject = Gives 6 near_object slanted_ray Passes (slanted_vertex ∷ slanted_image ∷ [])
 
 abbrev pub SphereHeight : Type 0
 SphereHeight =

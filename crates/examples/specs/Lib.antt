@@ -7,6 +7,11 @@ pub mod ComputedForms
 pub mod ComputedRounds
 pub mod ComputedRows
 pub mod ComputedScales
+pub mod ComputedSides
+pub mod ComputedTies
+pub mod ComputedWidths
+pub mod DoubletExamples
+pub mod ExactChains
 pub mod Exchange
 pub mod JobFiles
 pub mod JoiningExamples

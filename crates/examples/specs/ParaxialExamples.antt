@@ -1,32 +1,12 @@
--- First-order values and Seidel sums of small lenses, at scale 15.
-use Rattle.std.specs.Ordering.{int_eq}
-use Rattle.std.specs.Prelude.{◌≡◌, pos, negsuc, ◌&&◌, [], ◌∷◌, if◌then◌else◌}
-use Rattle.fixdec.specs.Ends.{Ends}
-use Rattle.fixdec.specs.Interval.{iv_root}
-use Rattle.fixdec.specs.IntervalOperations.{operations}
-use Rattle.fixdec.specs.Operations.{Operations}
-use Rattle.fixdec.specs.declared.step.Step.{Step}
+-- First-order values and Seidel sums of small lenses of one surface, at scale 15.
+use Rattle.std.specs.Prelude.{◌≡◌, pos, negsuc, [], ◌∷◌}
 use Rattle.fixdec.specs.declared.step.Step.TheVariants.{Val, Lost}
-use Rattle.fixdec.specs.declared.step.Why.TheVariants.{Root, Zero}
-use Rattle.lensmodel.specs.Paraxial.FirstOrderRows.{first_attempt, first_order}
-use Rattle.lensmodel.specs.Paraxial.SeidelRows.{sums_attempt, seidel_sums}
+use Rattle.fixdec.specs.declared.step.Why.TheVariants.{Zero}
+use Rattle.lensmodel.specs.Paraxial.FirstOrderRows.{first_order}
+use Rattle.lensmodel.specs.Paraxial.SeidelRows.{seidel_sums}
 use Rattle.examples.specs.SmallLenses.{whole_dec, tenths, interval}
 use Rattle.examples.specs.Worked.{plane_setup, sphere_setup, mirror_setup}
 use Rattle.lensmodel.specs.Setup.Values.{zero_decimal}
-
--- the square of an index of 1.5, widened by the residual, and its root
-abbrev pub index_square : Ends
-index_square = interval (pos 2249999999999000) (pos 2250000000001000)
-
-abbrev pub index : Ends
-index = interval (pos 1499999999999666) (pos 1500000000000334)
-
--- intervals at scale 15, with that root written out and no other
-abbrev pub root_of : Ends → Step Ends
-root_of a = if int_eq a.lo index_square.lo && int_eq a.hi index_square.hi then Val index else Lost Root
-
-abbrev pub rooted : Operations Ends
-rooted = record (operations 15) { root = root_of }
 
 -- a plane in air bends no ray: the values are lost where they divide by its power, and the pupil is at the stop
 abbrev pub PlaneInAir : Type 0
@@ -46,22 +26,21 @@ PlaneInAir = first_order plane_setup (whole_dec (pos 1)) zero_decimal ≡ record
 }
 
 -- a sphere of radius 10 with an index of 1.5 behind it has the focal lengths 30 and 20
-pub record GlassSphere : Type 0 where
-  pub root : iv_root 15 index_square ≡ Val index
-  pub out : (first_attempt rooted 15 sphere_setup (pos 1000) (whole_dec (pos 1)) zero_decimal).out ≡ record {
-    scale = 15;
-    efl = Val (interval (pos 29999999999342100) (pos 30000000000657601));
-    bfl = Val (interval (pos 29999999999342100) (pos 30000000000657601));
-    ffl = Val (interval (negsuc 20000000000472860) (negsuc 19999999999526929));
-    front = Val (interval (negsuc 915914) (pos 915925));
-    back = Val (interval (negsuc 1315500) (pos 1315501));
-    enp = Val (interval (negsuc 999) (pos 1000));
-    trail = record {
-      items =
-          (Val (interval (pos 1000000000000000) (pos 1000000000000000)), Val (interval (negsuc 33333333334030) (negsuc 33333333332635)))
-          ∷ (Val (interval (pos 666666666658690) (pos 666666666674640)), Val (interval (negsuc 33333333334030) (negsuc 33333333332635))) ∷ [];
-    };
-  }
+abbrev pub GlassSphere : Type 0
+GlassSphere = first_order sphere_setup (whole_dec (pos 1)) zero_decimal ≡ record {
+  scale = 15;
+  efl = Val (interval (pos 29999999999342100) (pos 30000000000657601));
+  bfl = Val (interval (pos 29999999999342100) (pos 30000000000657601));
+  ffl = Val (interval (negsuc 20000000000472860) (negsuc 19999999999526929));
+  front = Val (interval (negsuc 915914) (pos 915925));
+  back = Val (interval (negsuc 1315500) (pos 1315501));
+  enp = Val (interval (negsuc 999) (pos 1000));
+  trail = record {
+    items =
+        (Val (interval (pos 1000000000000000) (pos 1000000000000000)), Val (interval (negsuc 33333333334030) (negsuc 33333333332635)))
+        ∷ (Val (interval (pos 666666666658690) (pos 666666666674640)), Val (interval (negsuc 33333333334030) (negsuc 33333333332635))) ∷ [];
+  };
+}
 
 -- a mirror of radius 10 has the focal length 5, in front of it
 abbrev pub MirrorFocus : Type 0
@@ -81,13 +60,12 @@ MirrorFocus = first_order mirror_setup (whole_dec (pos 1)) zero_decimal ≡ reco
 }
 
 -- S1 holds 1/4500, and S4 holds 1/3000
-pub record SphereSums : Type 0 where
-  pub root : iv_root 15 index_square ≡ Val index
-  pub out : (sums_attempt rooted 15 sphere_setup (pos 1000) (whole_dec (pos 1)) zero_decimal zero_decimal (tenths (pos 1))).out ≡ record {
-    scale = 15;
-    per = record { items = (record { s1 = Val (interval (pos 222222221217) (pos 222222223227)); s2 = Val (interval (pos 222222221217) (pos 222222223227)); s3 = Val (interval (pos 222222221217) (pos 222222223227)); s4 = Val (interval (pos 333333332333) (pos 333333334334)); s5 = Val (interval (pos 555555554555) (pos 555555556556)) }) ∷ [] };
-    whole = record { s1 = Val (interval (pos 222222221217) (pos 222222223227)); s2 = Val (interval (pos 222222221217) (pos 222222223227)); s3 = Val (interval (pos 222222221217) (pos 222222223227)); s4 = Val (interval (pos 333333332333) (pos 333333334334)); s5 = Val (interval (pos 555555554555) (pos 555555556556)) };
-  }
+abbrev pub SphereSums : Type 0
+SphereSums = seidel_sums sphere_setup (whole_dec (pos 1)) zero_decimal zero_decimal (tenths (pos 1)) ≡ record {
+  scale = 15;
+  per = record { items = (record { s1 = Val (interval (pos 222222221217) (pos 222222223227)); s2 = Val (interval (pos 222222221217) (pos 222222223227)); s3 = Val (interval (pos 222222221217) (pos 222222223227)); s4 = Val (interval (pos 333333332333) (pos 333333334334)); s5 = Val (interval (pos 555555554555) (pos 555555556556)) }) ∷ [] };
+  whole = record { s1 = Val (interval (pos 222222221217) (pos 222222223227)); s2 = Val (interval (pos 222222221217) (pos 222222223227)); s3 = Val (interval (pos 222222221217) (pos 222222223227)); s4 = Val (interval (pos 333333332333) (pos 333333334334)); s5 = Val (interval (pos 555555554555) (pos 555555556556)) };
+}
 
 -- a paraboloid has no spherical aberration
 abbrev pub ParaboloidSums : Type 0

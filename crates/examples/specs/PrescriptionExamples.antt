@@ -7,7 +7,7 @@ use Rattle.examples.specs.SmallLenses.{dec, whole_dec, interval, mirror, asphere
 use Rattle.examples.specs.Worked.{far_object, plane_setup}
 use Rattle.lensmodel.specs.Setup.Values.{plane, zero_decimal, owner, travel}
 use Rattle.lensmodel.specs.Setup.WholeFaults.{whole_fault}
-use Rattle.lensmodel.specs.Setup.Zones.{surface_zone, surface_norm, scaled_coefficient}
+use Rattle.lensmodel.specs.Setup.Zones.{surface_zone, norm_of, scaled_coefficient}
 use Rattle.lensmodel.specs.declared.fault.ZmxFault.TheVariants.{TooFewSurfaces, StopCount, MirrorAtObject, InnerInfinity, NoZone, Coefficient}
 use Rattle.lensmodel.specs.declared.prescription.Prescription.{Prescription}
 use Rattle.lensmodel.specs.declared.surface.Surface.{Surface}
@@ -19,7 +19,7 @@ wide = asphere (whole_dec (pos 12)) (dec (pos 1) (negsuc 19))
 
 abbrev pub WideZone : Type 0
 WideZone =
-    (surface_zone wide ≡ Some (interval (pos 13200000000) (pos 13200000000))) × (surface_norm wide ≡ pos 3)
+    (surface_zone wide ≡ Some (interval (pos 13200000000) (pos 13200000000))) × (norm_of wide ≡ pos 3)
     × (scaled_coefficient wide 8 ≡ dec (pos 1) (pos 4))
 
 -- a third of a unit of 10^-9 is rounded up to one unit
@@ -27,7 +27,7 @@ abbrev pub small : Surface
 small = asphere (dec (pos 3) (negsuc 10)) zero_decimal
 
 abbrev pub SmallZone : Type 0
-SmallZone = (surface_zone small ≡ Some (interval (pos 1) (pos 1))) × (surface_norm small ≡ negsuc 5)
+SmallZone = (surface_zone small ≡ Some (interval (pos 1) (pos 1))) × (norm_of small ≡ negsuc 5)
 
 -- semi-diameters of 0 and past 1000/1.1 have no zone, and a plane without one has none
 abbrev pub NoZones : Type 0

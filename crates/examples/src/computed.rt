@@ -1,19 +1,23 @@
 //! Rows of worked setups, number for number: each function does nothing, and its contract says
 //! what the definitions of the rows give.
 
-ghost use Rattle.examples.specs.ComputedAspheres.{SphericalHeight, BentHeight, PastZone, AtZone, BowlLost, BowlRoot, BowlAsConic};
+ghost use Rattle.examples.specs.ComputedAspheres.{SphericalHeight, BentHeight, PastZone, AtZone, BowlLost, BowlRoot, BowlAsConic, LastCell, ConicAsphere, ZoneSquare, AsphereEdge};
 ghost use Rattle.examples.specs.ComputedBoxes.{ThicknessBox, PlateBox, FlatIndex, HeavyIndex, CrownIndex};
-ghost use Rattle.examples.specs.ComputedEdges.{BoundMet, BoundPassed, ImageTie, ImageRim, EqualGlass, EqualInBox, TolerantBefore, TolerantBehind};
-ghost use Rattle.examples.specs.ComputedFolds.{FoldedRay, FoldedBox};
-ghost use Rattle.examples.specs.ComputedForms.{PlaneInForms, AsphereInForms, OutsideInForms, ReflectedInForms, VignettedInForms, TieInForms, FormDifference, FormQuotient, FormProduct};
-ghost use Rattle.examples.specs.ComputedRounds.{BentParts, FrontParts, SteepRounds};
-ghost use Rattle.examples.specs.ComputedRows.{SlantedPlane, SphereHeight, GlassAxis, MirrorFocus, PastSphere, BehindEquator, TotalReflection, OutsideRim, InsideRim, FanRay, AimedRay};
-ghost use Rattle.examples.specs.ComputedScales.{RimTie, WideBeforeUndecided, VignettedBeforeWide, WideAtFirst, FinerPasses, SphereEdge, GrazingRay, FarImage, FarthestImage, FinestResidual, LessFarImage, FartherImage, FinestPasses, CoarseResidual, FineResidual};
+ghost use Rattle.examples.specs.ComputedEdges.{BoundMet, BoundPassed, ImageTie, ImageRim, EqualGlass, EqualInBox, TolerantBefore, TolerantBehind, RimLeastMet, RimLeastPassed, RimGreatestMet};
+ghost use Rattle.examples.specs.ComputedFolds.{FoldedRay, FoldedBox, FoldedCoarse};
+ghost use Rattle.examples.specs.ComputedForms.{EmptyBox, PlaneInForms, AsphereInForms, OutsideInForms, ReflectedInForms, VignettedInForms, TieInForms, FormDifference, FormQuotient, FormProduct};
+ghost use Rattle.examples.specs.ComputedRounds.{BentParts, FrontParts, SkewParts, SkewRow, SteepRounds};
+ghost use Rattle.examples.specs.ComputedRows.{SlantedPlane, NearObject, SphereHeight, GlassAxis, MirrorFocus, PastSphere, BehindEquator, TotalReflection, OutsideRim, InsideRim, FanRay, AimedRay};
+ghost use Rattle.examples.specs.ComputedSides.{SteepMirror, TwoMirrors, GrazingCoarse};
+ghost use Rattle.examples.specs.ComputedTies.{Touching, AtZero, OfWindow};
+ghost use Rattle.examples.specs.ComputedWidths.{WidePath, WideX, WideY, WideZ, WideL, WideM, WideN};
+ghost use Rattle.examples.specs.ComputedScales.{RimTie, WideBeforeUndecided, VignettedBeforeWide, FinerPasses, SphereEdge, GrazingRay, FarImage, FarthestImage, FinestResidual, LessFarImage, FartherImage, FinestPasses, CoarseResidual, FineResidual, StartLost};
 
-/// Rays that reach the image: through a plane, through a sphere in air, along the axis of a sphere
+/// Rays that reach the image: through a plane, whatever the object's distance, through a sphere in air, along the axis of a sphere
 /// of glass, and by a mirror.
 pub fn rays_pass()
     ensures plane { SlantedPlane }
+    ensures near { NearObject }
     ensures sphere { SphereHeight }
     ensures glass { GlassAxis }
     ensures mirror { MirrorFocus }
@@ -46,7 +50,6 @@ pub fn rims_decide()
 pub fn words_in_order()
     ensures vignetted { VignettedBeforeWide }
     ensures wide { WideBeforeUndecided }
-    ensures first { WideAtFirst }
     ensures finer { FinerPasses }
 {}
 
@@ -60,6 +63,7 @@ pub fn scales_in_order()
     ensures farthest { FarthestImage }
     ensures edge { SphereEdge }
     ensures grazing { GrazingRay }
+    ensures start { StartLost }
 {}
 
 /// The residual in units of the scales, and a ray that passes by its smallness.
@@ -70,7 +74,8 @@ pub fn residuals()
 {}
 
 /// Even aspheres: one that is a sphere, one that is bent, rays past the zone and at it, and a bowl
-/// whose steep ray is lost, though it crosses the same bowl as a conic.
+/// whose steep ray is lost, though it crosses the same bowl as a conic; a crossing in the last cell,
+/// a conic constant far from 0, a zone whose square isn't one number, and the edge of a sphere.
 pub fn aspheres()
     ensures spherical { SphericalHeight }
     ensures bent { BentHeight }
@@ -79,6 +84,10 @@ pub fn aspheres()
     ensures bowl { BowlLost }
     ensures root { BowlRoot }
     ensures conic { BowlAsConic }
+    ensures last_cell { LastCell }
+    ensures far_conic { ConicAsphere }
+    ensures zone_square { ZoneSquare }
+    ensures edge { AsphereEdge }
 {}
 
 /// Rays through a box, in linear arithmetic.
@@ -88,10 +97,11 @@ pub fn rays_in_box()
 {}
 
 /// A skew ray through even aspheres, conics, glass and mirrors, forwards and backwards: in
-/// intervals, and with a box in linear arithmetic.
+/// intervals, with a box in linear arithmetic, and with a residual of a hundred units.
 pub fn folded_rays()
     ensures intervals { FoldedRay }
     ensures forms { FoldedBox }
+    ensures coarse { FoldedCoarse }
 {}
 
 /// Indices by both formulas.
@@ -105,6 +115,25 @@ pub fn indices()
 pub fn bounds_turn()
     ensures met { BoundMet }
     ensures passed { BoundPassed }
+{}
+
+/// A rim whose square isn't one number at scale 6: rho that ends where it begins, rho that ends
+/// within it, and rho that begins where it ends.
+pub fn rims_turn()
+    ensures least { RimLeastMet }
+    ensures within { RimLeastPassed }
+    ensures greatest { RimGreatestMet }
+{}
+
+/// Each of the intervals of a place and of a heading alone makes a row wide.
+pub fn widths_turn()
+    ensures path { WidePath }
+    ensures x { WideX }
+    ensures y { WideY }
+    ensures z { WideZ }
+    ensures l { WideL }
+    ensures m { WideM }
+    ensures n { WideN }
 {}
 
 /// A rim at the image: its words name the image.
@@ -128,8 +157,9 @@ pub fn form_values()
     ensures product { FormProduct }
 {}
 
-/// The words in linear arithmetic.
+/// The words in linear arithmetic, which a box, even an empty one, asks for.
 pub fn words_in_forms()
+    ensures empty { EmptyBox }
     ensures plane { PlaneInForms }
     ensures asphere { AsphereInForms }
     ensures outside { OutsideInForms }
@@ -138,10 +168,27 @@ pub fn words_in_forms()
     ensures tie { TieInForms }
 {}
 
-/// The parts of a meeting with an even asphere: the window, what the cells leave of it, and the
-/// slope rounds.
+/// The parts of a meeting with an even asphere: the window, what the cells leave of it, the sag over
+/// that, and the slope rounds.
 pub fn meetings()
     ensures bent { BentParts }
     ensures front { FrontParts }
+    ensures skew { SkewParts }
+    ensures skew_row { SkewRow }
     ensures steep { SteepRounds }
+{}
+
+/// Where a step of a meeting turns: intervals that touch, bounds at 0, and the cells of a window.
+pub fn ties()
+    ensures touching { Touching }
+    ensures at_zero { AtZero }
+    ensures of_window { OfWindow }
+{}
+
+/// Rays on the wrong side: a mirror that sends a ray on, and one that sends it back once more; and a
+/// ray nearly along a plane.
+pub fn sides()
+    ensures mirror { SteepMirror }
+    ensures mirrors { TwoMirrors }
+    ensures grazing { GrazingCoarse }
 {}

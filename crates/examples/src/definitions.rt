@@ -1,6 +1,8 @@
 //! Small lenses, jobs and spots on which the definitions are worked out: each function does
 //! nothing, and its contract says what the definitions give.
 
+ghost use Rattle.examples.specs.DoubletExamples.{DoubletFirst, StopAtObject, StopAtImage, ManginFirst, BlockedFirst, HighRays, DoubletSums, HighSums, ManginSums};
+ghost use Rattle.examples.specs.ExactChains.{FirstChainMeets, FirstChainHeld, SumsChainMeets, SumsChainHeld};
 ghost use Rattle.examples.specs.JobFiles.{JobFaults, ReadJob, MostRays, BoxFaults, ReadBox};
 ghost use Rattle.examples.specs.JoiningExamples.{Wavelengths, Glasses, Tolerances, WideTolerance};
 ghost use Rattle.examples.specs.LaunchExamples.{FanOfTwo, GridOfOne};
@@ -77,17 +79,29 @@ pub fn joined_setups()
     ensures wide { WideTolerance }
 {}
 
-/// First-order values of a plane, of a sphere with glass behind it, and of a mirror.
+/// First-order values of a plane, of a sphere with glass behind it, of a mirror, of two surfaces with
+/// the stop at the second, at the object and at the image, of a mirror in glass, of a lens of which
+/// two rows are lost, and of rays too high for the greater scales.
 pub fn first_order_values()
     ensures plane { PlaneInAir }
     ensures sphere { GlassSphere }
     ensures mirror { MirrorFocus }
+    ensures doublet { DoubletFirst }
+    ensures no_stop { StopAtObject }
+    ensures last_stop { StopAtImage }
+    ensures mangin { ManginFirst }
+    ensures blocked { BlockedFirst }
+    ensures high { HighRays }
 {}
 
-/// Seidel sums of a sphere with glass behind it, and of a paraboloid that reflects.
+/// Seidel sums of a sphere with glass behind it, of a paraboloid that reflects, of two surfaces, and
+/// of a mirror in glass.
 pub fn seidel_sums()
     ensures sphere { SphereSums }
     ensures paraboloid { ParaboloidSums }
+    ensures doublet { DoubletSums }
+    ensures high { HighSums }
+    ensures mangin { ManginSums }
 {}
 
 /// Statistics of a grid, of rows at three scales, and of a row whose square passes the cap.
@@ -95,4 +109,13 @@ pub fn spots()
     ensures grid { GridStatistics }
     ensures mixed { MixedStatistics }
     ensures far { FarStatistics }
+{}
+
+/// A paraxial chain and a Seidel chain of two surfaces, in exact fractions: they meet the equations,
+/// and lie in the intervals of the rows.
+pub fn exact_chains()
+    ensures first { FirstChainMeets }
+    ensures first_held { FirstChainHeld }
+    ensures sums { SumsChainMeets }
+    ensures sums_held { SumsChainHeld }
 {}

@@ -4,14 +4,14 @@ ghost use Rattle.std.specs.Prelude.{◌≡◌, [], ◌∷◌};
 ghost use Rattle.lensmodel.specs.Setup.Values.{plane, zero_decimal};
 ghost use Rattle.examples.specs.Worked.{flat_name, flat_glass, far_object, rim_plane, setup_of, sphere_setup};
 
+use arrayvec::ArrayVec;
+use fixdec::dec::Dec;
 use lensmodel::glass::{Glass, Medium};
 use lensmodel::launch::Launch;
 use lensmodel::name::Name;
 use lensmodel::prescription::Prescription;
 use lensmodel::setup::Setup;
 use lensmodel::surface::{Surface, SurfaceKind};
-use arrayvec::ArrayVec;
-use fixdec::dec::Dec;
 
 /// The name FLAT.
 pub fn flat() -> Name

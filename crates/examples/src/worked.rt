@@ -13,15 +13,15 @@ ghost use Rattle.examples.specs.Worked.{whole_decimal, plane_setup, slanted_ray,
 ghost use Rattle.examples.specs.WorkedChains.{slanted_chain, slanted_to, axis_chain, height_chain, steep_chain, level_chain, mirror_chain, bowl_near, bowl_far};
 ghost use Rattle.examples.specs.WorkedRow.{slanted_vertex, slanted_heading, slanted_image, axis_vertex, axis_heading, axis_image};
 
+use crate::single::{
+    flat, flat_medium, plane_surface, ray_in_y, rim_surface, setup_between, setup_in_air, sphere,
+};
+use fixdec::dec::Dec;
 use lensmodel::glass::Medium;
 use lensmodel::launch::Launch;
 use lensmodel::row::Word;
 use lensmodel::setup::Setup;
-use crate::single::{
-    flat, flat_medium, plane_surface, ray_in_y, rim_surface, setup_between, setup_in_air, sphere,
-};
 use lensmodel::surface::SurfaceKind;
-use fixdec::dec::Dec;
 
 /// A setup and a ray of it.
 #[derive(Debug, PartialEq, Eq, Drop)]

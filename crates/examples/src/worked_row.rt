@@ -5,9 +5,9 @@ ghost use Rattle.lensmodel.specs.Claims.RowClaims.{RowHolds};
 ghost use Rattle.examples.specs.Worked.{plane_setup, slanted_ray};
 ghost use Rattle.examples.specs.WorkedRow.{slanted_row};
 
-use lensmodel::row::{Heading, Place, Row, Word};
 use arrayvec::ArrayVec;
 use fixdec::span::Span;
+use lensmodel::row::{Heading, Place, Row, Word};
 
 /// The row that is printed of the slanted ray: its intervals hold every chain, and its word holds.
 pub fn slanted_plane_row() -> Row

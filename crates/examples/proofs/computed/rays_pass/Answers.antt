@@ -1,4 +1,4 @@
-use Rattle.examples.proofs.ComputedRows.{slanted_plane, sphere_height, glass_axis, mirror_focus}
+use Rattle.examples.proofs.ComputedRows.{slanted_plane, sphere_height, glass_axis, mirror_focus, near}
 use Rattle.examples.proofs.computed.rays_pass.Goals as goal
 
 pub returns-clause-plane : goal.returns-clause-plane
@@ -12,3 +12,6 @@ returns-clause-glass c = glass_axis
 
 pub returns-clause-mirror : goal.returns-clause-mirror
 returns-clause-mirror c = mirror_focus
+
+pub returns-clause-near : goal.returns-clause-near
+returns-clause-near c = near

@@ -1,4 +1,4 @@
-use Rattle.examples.proofs.ComputedRows.{farther_image, far_image, less_far_image, finest_passes, farthest_image, sphere_edge, grazing_ray}
+use Rattle.examples.proofs.ComputedRows.{farther_image, far_image, less_far_image, finest_passes, farthest_image, sphere_edge, grazing_ray, start_lost}
 use Rattle.examples.proofs.computed.scales_in_order.Goals as goal
 
 pub returns-clause-first_alone : goal.returns-clause-first_alone
@@ -21,3 +21,6 @@ returns-clause-edge c = sphere_edge
 
 pub returns-clause-grazing : goal.returns-clause-grazing
 returns-clause-grazing c = grazing_ray
+
+pub returns-clause-start : goal.returns-clause-start
+returns-clause-start c = start_lost

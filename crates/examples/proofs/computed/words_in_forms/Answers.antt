@@ -1,5 +1,8 @@
-use Rattle.examples.proofs.ComputedForms.{plane_in_forms, asphere_in_forms, outside_in_forms, reflected_in_forms, vignetted_in_forms, tie_in_forms}
+use Rattle.examples.proofs.ComputedForms.{empty_box, plane_in_forms, asphere_in_forms, outside_in_forms, reflected_in_forms, vignetted_in_forms, tie_in_forms}
 use Rattle.examples.proofs.computed.words_in_forms.Goals as goal
+
+pub returns-clause-empty : goal.returns-clause-empty
+returns-clause-empty c = empty_box
 
 pub returns-clause-plane : goal.returns-clause-plane
 returns-clause-plane c = plane_in_forms
