@@ -1,6 +1,6 @@
 -- The files that commands name, each read and accepted or answered by its fault; and the setup that they make. Cited by the
 -- commands.
-use Rattle.std.specs.Prelude.{ℕ, ◌≡◌, ◌≤◌, ◌-◌, List, [], ◌∷◌, length, Option, Some, None, Result, Ok, Err}
+use Rattle.std.specs.Prelude.{ℕ, ◌≡◌, ◌-◌, List, [], ◌∷◌, length, Option, Some, None, Ok}
 use Rattle.lensmodel.specs.Call.Answer.{Files, Named, Answer, on_file, on_read, on_checked}
 use Rattle.lensmodel.specs.Files.Catalogue.{catalogue}
 use Rattle.lensmodel.specs.Files.Job.{job as job_of}
@@ -10,7 +10,6 @@ use Rattle.lensmodel.specs.Files.LensFile.{LensFile}
 use Rattle.lensmodel.specs.Files.Tolerances.{tolerance_box}
 use Rattle.lensmodel.specs.Texts.FaultText.{zmx_cause, agf_cause, job_cause, tol_cause}
 use Rattle.lensmodel.specs.declared.glass.Glass.{Glass}
-use Rattle.lensmodel.specs.declared.job.Ask.{Ask}
 use Rattle.lensmodel.specs.declared.job.Job.{Job}
 use Rattle.lensmodel.specs.declared.prescription.Prescription.{Prescription}
 use Rattle.lensmodel.specs.declared.setup.Setup.{Setup}

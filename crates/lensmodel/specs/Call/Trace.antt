@@ -11,7 +11,6 @@ use Rattle.lensmodel.specs.Texts.Rows.{trace_head, rays_lines, spot_line, total_
 use Rattle.lensmodel.specs.declared.job.Ask.{Ask}
 use Rattle.lensmodel.specs.declared.job.Ask.TheVariants.{Ray, Aim, Fan, Spot, First, Seidel}
 use Rattle.lensmodel.specs.declared.job.Job.{Job}
-use Rattle.lensmodel.specs.declared.launch.Launch.{Launch}
 use Rattle.lensmodel.specs.declared.row.Row.{Row}
 use Rattle.lensmodel.specs.declared.setup.Setup.{Setup}
 use Rattle.lensmodel.specs.declared.status.Status.TheVariants.{Done}

@@ -115,5 +115,5 @@ module _ {A : Type 0} (member : A → Symbols → Frac → Type 0) where
   -- different media
   abbrev pub EnclosesBending : Setup → ℕ → Prepared A → Incoming A → Met A → Step (Direction A) → Type 0
   EnclosesBending s j f ray h r =
-      equal_media s j ≡ false → (c : Chain) → HoldsPrepared s c j f → HoldsRay c j ray → HoldsMet c j h
+      equal_media s j ≡ false → (c : Chain) → HasIndices s c → HoldsPrepared s c j f → HoldsRay c j ray → HoldsMet c j h
       → Transfers s c j → Crosses s c j → Bends s c j → OnVal r (λ d. HoldsDirection c j d)

@@ -57,9 +57,9 @@ coefficient_lines j i (a ∷ more) = coefficient_line j i a ++ coefficient_lines
 
 -- zone j [a,b]; the object has none
 abbrev pub zone_line : ℕ → Option Ends → List ℕ
-zone_line zero zone = []
+zone_line zero ends = []
 zone_line (suc j) None = []
-zone_line (suc j) (Some zone) = codes "zone" ++ spaced_number (suc j) ++ codes " " ++ span_text 9 zone ++ newline
+zone_line (suc j) (Some ends) = codes "zone" ++ spaced_number (suc j) ++ codes " " ++ span_text 9 ends ++ newline
 
 abbrev pub asphere_lines : SurfaceKind → ℕ → Surface → List ℕ
 asphere_lines Standard j f = []

@@ -1,11 +1,10 @@
 -- The lines of traced rays. Cited by the command trace.
-use Rattle.std.specs.Prelude.{ℕ, zero, suc, ◌+◌, Bool, true, false, List, [], ◌∷◌, ◌++◌, codes, length, map, filter, flat_map, Option, Some, None}
-use Rattle.fixdec.specs.Decimal.{Decimal}
+use Rattle.std.specs.Prelude.{ℕ, zero, suc, Bool, true, false, List, [], ◌∷◌, ◌++◌, codes, length, filter, Option, Some, None}
 use Rattle.fixdec.specs.Ends.{Ends}
 use Rattle.fixdec.specs.declared.step.Step.{Step}
-use Rattle.fixdec.specs.declared.step.Step.TheVariants.{Val, Empty, Lost}
+use Rattle.fixdec.specs.declared.step.Step.TheVariants.{Val}
 use Rattle.lensmodel.specs.Rows.Spot.{is_pass, passes, centroid, mean_square}
-use Rattle.lensmodel.specs.Texts.Pieces.{newline, span_text, spaced, spaced_number, named_span, why_text}
+use Rattle.lensmodel.specs.Texts.Pieces.{newline, spaced, spaced_number, named_span, why_text}
 use Rattle.lensmodel.specs.declared.row.Heading.{Heading}
 use Rattle.lensmodel.specs.declared.row.Place.{Place}
 use Rattle.lensmodel.specs.declared.row.Row.{Row}
