@@ -1,10 +1,11 @@
 //! Prepared surfaces.
 
-ghost use Rattle.std.specs.Prelude.{◌≡◌, ℕ, ℤ, pos, ◌≤◌, ◌≤ℤ◌, neg_ℤ, length, slice_get, Some, IfSome, [], ◌∷◌};
+ghost use Rattle.std.specs.Prelude.{◌≡◌, ℕ, ℤ, pos, ◌≤◌, ◌≤ℤ◌, neg_ℤ, length, slice_get, Some, IfSome};
 ghost use Rattle.fixdec.specs.Ends.{InCap};
 ghost use Rattle.lensmodel.specs.Rows.Preparation.{Prepared};
 ghost use Rattle.sagform.specs.Faces.{HasZone};
 
+use crate::terms::Terms;
 use enclose::arith::Arith;
 use fixdec::step::Step;
 use lensmodel::surface::SurfaceKind;
@@ -14,37 +15,30 @@ use std::marker::Model;
 /// keeps three steps of later rows that depend on it alone.
 #[derive(Drop)]
 pub struct Face<T: Arith> {
-    kind: SurfaceKind,
-    d: T,
-    c: T,
-    kappa: T,
-    ck: T,
-    n: T,
-    n2: Option<T>,
-    rim2: Option<T>,
-    zone2: Option<T>,
-    norm: i32,
-    b1: T,
-    b2: T,
-    b3: T,
-    b4: T,
-    b5: T,
-    b6: T,
-    b7: T,
-    b8: T,
-    sign: i32,
-    mirror: bool,
+    pub(crate) kind: SurfaceKind,
+    pub(crate) d: T,
+    pub(crate) c: T,
+    pub(crate) kappa: T,
+    pub(crate) ck: T,
+    pub(crate) n: T,
+    pub(crate) n2: Option<T>,
+    pub(crate) rim2: Option<T>,
+    pub(crate) zone2: Option<T>,
+    pub(crate) norm: i32,
+    pub(crate) b: Terms<T>,
+    pub(crate) sign: i32,
+    pub(crate) mirror: bool,
     // the units by which `wide_c` is widened
-    e: i128,
-    wide_c: Step<T>,
-    n_square: Step<T>,
-    n2_square: Step<T>,
+    pub(crate) e: i128,
+    pub(crate) wide_c: Step<T>,
+    pub(crate) n_square: Step<T>,
+    pub(crate) n2_square: Step<T>,
 }
 
 impl<T: Arith> Model for Face<T> {
     ghost Value = { Prepared T };
 
-    ghost view = { λ f. record { kind = f.kind; d = f.d; c = f.c; kappa = f.kappa; ck = f.ck; n = f.n; n2 = f.n2; rim2 = f.rim2; zone2 = f.zone2; norm = f.norm; b = f.b1 ∷ f.b2 ∷ f.b3 ∷ f.b4 ∷ f.b5 ∷ f.b6 ∷ f.b7 ∷ f.b8 ∷ []; sign = f.sign; mirror = f.mirror } };
+    ghost view = { λ f. record { kind = f.kind; d = f.d; c = f.c; kappa = f.kappa; ck = f.ck; n = f.n; n2 = f.n2; rim2 = f.rim2; zone2 = f.zone2; norm = f.norm; b = f.b; sign = f.sign; mirror = f.mirror } };
 
     ghost invariant = { λ f. (neg_ℤ (pos 6) ≤ℤ f.norm) × (f.norm ≤ℤ pos 6) × HasZone T.ops.hull f.kind f.zone2 × (f.wide_c ≡ T.ops.widen f.c f.e) × (f.n_square ≡ T.ops.square f.n) × IfSome f.n2 (λ n2. f.n2_square ≡ T.ops.square n2) };
 }
@@ -124,12 +118,20 @@ impl<T: Arith> Face<T> {
         self.norm
     }
 
+    /// The coefficients of the even terms.
+    pub(crate) fn terms(&self) -> &Terms<T>
+        ensures { result.now ≡ self.now.b }
+    {
+        &self.b
+    }
+
     /// The coefficient of `u` in the even terms; 0 of a standard surface.
     pub fn b1(&self) -> T
         ensures value { slice_get self.now.b 0 ≡ Some result }
         ensures count { length self.now.b ≡ 8 }
     {
-        self.b1
+        let terms = &self.b;
+        terms.b1
     }
 
     /// The coefficient of `u^2` in the even terms; 0 of a standard surface.
@@ -137,7 +139,8 @@ impl<T: Arith> Face<T> {
         ensures value { slice_get self.now.b 1 ≡ Some result }
         ensures count { length self.now.b ≡ 8 }
     {
-        self.b2
+        let terms = &self.b;
+        terms.b2
     }
 
     /// The coefficient of `u^3` in the even terms; 0 of a standard surface.
@@ -145,7 +148,8 @@ impl<T: Arith> Face<T> {
         ensures value { slice_get self.now.b 2 ≡ Some result }
         ensures count { length self.now.b ≡ 8 }
     {
-        self.b3
+        let terms = &self.b;
+        terms.b3
     }
 
     /// The coefficient of `u^4` in the even terms; 0 of a standard surface.
@@ -153,7 +157,8 @@ impl<T: Arith> Face<T> {
         ensures value { slice_get self.now.b 3 ≡ Some result }
         ensures count { length self.now.b ≡ 8 }
     {
-        self.b4
+        let terms = &self.b;
+        terms.b4
     }
 
     /// The coefficient of `u^5` in the even terms; 0 of a standard surface.
@@ -161,7 +166,8 @@ impl<T: Arith> Face<T> {
         ensures value { slice_get self.now.b 4 ≡ Some result }
         ensures count { length self.now.b ≡ 8 }
     {
-        self.b5
+        let terms = &self.b;
+        terms.b5
     }
 
     /// The coefficient of `u^6` in the even terms; 0 of a standard surface.
@@ -169,7 +175,8 @@ impl<T: Arith> Face<T> {
         ensures value { slice_get self.now.b 5 ≡ Some result }
         ensures count { length self.now.b ≡ 8 }
     {
-        self.b6
+        let terms = &self.b;
+        terms.b6
     }
 
     /// The coefficient of `u^7` in the even terms; 0 of a standard surface.
@@ -177,7 +184,8 @@ impl<T: Arith> Face<T> {
         ensures value { slice_get self.now.b 6 ≡ Some result }
         ensures count { length self.now.b ≡ 8 }
     {
-        self.b7
+        let terms = &self.b;
+        terms.b7
     }
 
     /// The coefficient of `u^8` in the even terms; 0 of a standard surface.
@@ -185,7 +193,8 @@ impl<T: Arith> Face<T> {
         ensures value { slice_get self.now.b 7 ≡ Some result }
         ensures count { length self.now.b ≡ 8 }
     {
-        self.b8
+        let terms = &self.b;
+        terms.b8
     }
 
     /// The sign of travel of the rays that arrive: 1 along the axis, -1 against it.

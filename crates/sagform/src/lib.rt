@@ -14,9 +14,14 @@ macro_rules! val {
     };
 }
 
+pub mod constant;
 pub mod face;
 pub mod index;
+pub mod layout;
+pub mod prepare;
 pub mod ray;
+pub mod sag;
 pub mod steps;
+mod terms;
 #[cfg(test)]
 mod tests;
