@@ -14,10 +14,15 @@ module _ {A : Type 0} (o : Operations A) (scale : ℕ) where
   term_row b u v = do
     o.plus b (← o.times u v)
 
+  -- i*bi
+  abbrev pub weighted_row : ℕ → A → Step A
+  weighted_row i b = do
+    o.times (← whole_row o scale (pos i)) b
+
   -- (i*bi) + (u*W(i+1))
   abbrev pub slope_term_row : ℕ → A → A → A → Step A
   slope_term_row i b u w = do
-    o.plus (← o.times (← whole_row o scale (pos i)) b) (← o.times u w)
+    o.plus (← weighted_row i b) (← o.times u w)
 
   -- V1, from the last coefficient down
   abbrev pub last_value : A → List A → Step A

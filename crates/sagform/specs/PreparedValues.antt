@@ -8,7 +8,7 @@ use Rattle.fixdec.specs.Frac.{Frac, ◌≈◌, ◌≤Q◌, ◌+Q◌, ◌*Q◌, w
 use Rattle.fixdec.specs.Algebra.FracLaws.{≈_refl, ≈_sym, mul_same}
 use Rattle.fixdec.specs.Algebra.Linear.{linear, name, no_fact, reads}
 use Rattle.fixdec.specs.Algebra.MemberLaws.{units_nn}
-use Rattle.fixdec.specs.Algebra.Order.{le_trans, le_whole_out}
+use Rattle.fixdec.specs.Algebra.Order.{le_trans, le_whole, le_whole_out}
 use Rattle.fixdec.specs.Algebra.OrderLaws.{mul_nn, square_nn}
 use Rattle.fixdec.specs.Algebra.PowerLaws.{dec_span_member}
 use Rattle.fixdec.specs.Algebra.Terms.{is, is_mul, is_whole, same_if}
@@ -45,7 +45,7 @@ zone_value z = same_if (is_mul (is_whole z) (is (tenth_power 9))) (is (nano z)) 
 
 -- each symbol 0
 no_deviation : Symbols
-no_deviation = record { at = λ i. whole (pos 0); low = λ i. record { cross = omega (arith, ints) }; high = λ i. record { cross = omega (arith, ints) } }
+no_deviation = record { at = λ i. whole (pos 0); low = λ i. le_whole (omega (arith, ints)); high = λ i. le_whole (omega (arith, ints)) }
 
 module _ {A : Type 0} (scale : ℕ) (o : Operations A) (member : A → Symbols → Frac → Type 0) (law : IsLawful scale o member) where
   module _ (sy : Symbols) where

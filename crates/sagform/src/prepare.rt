@@ -4,6 +4,7 @@ ghost use Rattle.std.specs.Prelude.{◌≡◌, ℕ, suc, ℤ, pos, ◌+◌, ◌-
 ghost use Rattle.std.specs.List.{All};
 ghost use Rattle.fixdec.specs.Ends.{InCap};
 ghost use Rattle.fixdec.specs.Scaled.{dec_shifted};
+ghost use Rattle.fixdec.specs.Steps.{OnVal};
 ghost use Rattle.fixdec.specs.Word.{IsReadable};
 ghost use Rattle.fixdec.specs.Zone.{IsZone};
 ghost use Rattle.lensmodel.specs.Claims.Enclosure.{EnclosesPreparation};
@@ -16,6 +17,8 @@ ghost use Rattle.lensmodel.specs.Setup.Values as values;
 ghost use Rattle.lensmodel.specs.Setup.WellFormed.{IsBox, IsWellFormed, IsWrittenSurface};
 ghost use Rattle.lensmodel.specs.Setup.Zones as zones;
 ghost use Rattle.sagform.specs.Deviations.{symbol_row};
+ghost use Rattle.sagform.specs.Faces.{HasZone};
+ghost use Rattle.sagform.specs.Setups.{IsZoned};
 ghost use Rattle.sagform.specs.Zoned.{zone_at, zone_decimal, norm_at, scaled_at};
 
 use crate::constant::{decimal, residual_units, whole};
@@ -93,12 +96,13 @@ fn medium_index<T: Arith>(m: &Medium, wave: &Dec, e: i128) -> Step<T>
     }
 }
 
-/// One plus the conic constant.
-fn conic_factor<T: Arith>(f: &Surface) -> Step<T>
-    requires { T.SCALE ≤ 15 }
-    ensures { result ≡ rows.conic_factor_row T.ops T.SCALE f.now }
+/// One plus the conic constant of surface `j`.
+fn conic_factor<T: Arith>(s: &Setup, j: u32) -> Step<T>
+    requires scale { T.SCALE ≤ 15 }
+    requires surface { j < length s.now.lens.surfaces.items }
+    ensures { result ≡ rows.conic_factor_row T.ops T.SCALE (values.surface_at s.now j) }
 {
-    val!(whole::<T>(1)).plus(val!(decimal(&f.conic)))
+    val!(whole::<T>(1)).plus(val!(decimal(&surface(s, j).conic)))
 }
 
 /// The square of a decimal, where there is one.
@@ -112,11 +116,14 @@ fn square<T: Arith>(v: &Option<Dec>) -> Step<Option<T>>
     }
 }
 
-/// The semi-diameter that clips: that of a surface with a rim.
-fn rim(f: &Surface) -> Option<Dec>
-    ensures { result ≡ values.rim_of f.now }
+/// The square of the rim of surface `j`, where there is one.
+fn rim2<T: Arith>(s: &Setup, j: u32) -> Step<Option<T>>
+    requires scale { T.SCALE ≤ 15 }
+    requires surface { j < length s.now.lens.surfaces.items }
+    ensures { result ≡ rows.square_row T.ops T.SCALE (values.rim_of (values.surface_at s.now j)) }
 {
-    if f.rim { f.semi } else { None }
+    let f = surface(s, j);
+    square(&if f.rim { f.semi } else { None })
 }
 
 /// The zone of an even asphere, at scale 9.
@@ -261,29 +268,60 @@ fn index_if<T: Arith>(s: &Setup, j: u32) -> Step<Option<T>>
     }
 }
 
-/// The rows of the preparation of a surface, by the number of the surface before it.
-#[tactic(auto, unfolding(lensmodel::specs::Rows::Preparation::preparation_rows, lensmodel::specs::Rows::Preparation::preparation_by))]
-fn rows_of<T: Arith>(s: &Setup, before: u32) -> Step<Face<T>>
+/// The square of the zone of surface `j`, which an even asphere has.
+fn zone2<T: Arith>(s: &Setup, j: u32) -> Step<Option<T>>
+    requires scale { T.SCALE ≤ 15 }
+    requires surface { j < length s.now.lens.surfaces.items }
+    requires zoned { IsZoned (values.surface_at s.now j) }
+    ensures exact { result ≡ rows.square_row T.ops T.SCALE (zones.zone_of (values.surface_at s.now j)) }
+    ensures kept { OnVal result (λ a. HasZone T.ops.hull (values.surface_at s.now j).kind a) }
+{
+    square(&decimal_of(&zone(surface(s, j))))
+}
+
+/// The power of ten that `rho` is brought to at surface `j`.
+fn norm_of_surface(s: &Setup, j: u32) -> i32
+    requires surface { j < length s.now.lens.surfaces.items }
+    requires zoned { IsZoned (values.surface_at s.now j) }
+    ensures value { result ≡ zones.norm_of (values.surface_at s.now j) }
+    ensures low { neg_ℤ (pos 6) ≤ℤ result }
+    ensures high { result ≤ℤ pos 6 }
+{
+    norm(&zone(surface(s, j)))
+}
+
+/// The coefficients `b1` to `b8` of surface `j`.
+fn terms<T: Arith>(s: &Setup, j: u32) -> Step<Terms<T>>
+    requires scale { T.SCALE ≤ 15 }
+    requires surface { j < length s.now.lens.surfaces.items }
+    requires zoned { IsZoned (values.surface_at s.now j) }
+    requires written { IsWrittenSurface (values.surface_at s.now j) }
+    ensures { result ≡ rows.decimal_rows T.ops T.SCALE (zones.scaled_coefficients (values.surface_at s.now j)) }
+{
+    let f = surface(s, j);
+    coefficients(f, &zone(f))
+}
+
+/// The rows of the preparation of surface `j`, behind the surface `before`.
+fn rows_of<T: Arith>(s: &Setup, before: u32, j: u32) -> Step<Face<T>>
     requires scale { T.SCALE ≤ 15 }
     requires well { IsWellFormed s.now }
-    requires surface { before + 1 < length s.now.lens.surfaces.items }
+    requires next { j ≡ suc before }
+    requires surface { j < length s.now.lens.surfaces.items }
     ensures { result ≡ rows.preparation_rows T.ops T.SCALE s.now (constants.residual_units T.SCALE s.now.res) before }
 {
-    let j = before + 1;
-    let f = surface(s, j);
-    let zone = zone(f);
     let d = val!(distance::<T>(s, before));
     let c = val!(curvature::<T>(s, j));
-    let kappa = val!(conic_factor::<T>(f));
+    let kappa = val!(conic_factor::<T>(s, j));
     let ck = val!(c.times(kappa));
     let n = val!(index_behind::<T>(s, before));
     let n2 = val!(index_if::<T>(s, j));
-    let rim2 = val!(square::<T>(&rim(f)));
-    let zone2 = val!(square::<T>(&decimal_of(&zone)));
-    let b = val!(coefficients::<T>(f, &zone));
+    let rim2 = val!(rim2::<T>(s, j));
+    let zone2 = val!(zone2::<T>(s, j));
+    let b = val!(terms::<T>(s, j));
     let e = residual_units(T::SCALE, s.res);
     Step::Val(Face {
-        kind: f.kind,
+        kind: surface(s, j).kind,
         d,
         c,
         kappa,
@@ -292,7 +330,7 @@ fn rows_of<T: Arith>(s: &Setup, before: u32) -> Step<Face<T>>
         n2,
         rim2,
         zone2,
-        norm: norm(&zone),
+        norm: norm_of_surface(s, j),
         b,
         sign: travel(s, before),
         mirror: reflects(s, j),
@@ -328,5 +366,5 @@ pub fn face<T: Arith, L: Ledger>(s: &Setup, j: u32, steps: &mut Steps<L>) -> Ste
     ensures encloses { EnclosesPreparation T.member s.now (j - 1) result }
 {
     steps.tick();
-    rows_of(s, j - 1)
+    rows_of(s, j - 1, j)
 }

@@ -87,13 +87,20 @@ fn polynomial<T: Arith>(b: &Terms<T>, u: T) -> Step<T>
     last_value(b, u)
 }
 
+/// `i*b`.
+fn weighted<T: Arith>(i: u32, b: T) -> Step<T>
+    requires { T.SCALE ≤ 15 }
+    ensures { result ≡ polynomials.weighted_row T.ops T.SCALE i b }
+{
+    val!(whole::<T>(i)).times(b)
+}
+
 /// `(i*b) + (u*w)`.
 fn slope_term<T: Arith>(i: u32, b: T, u: T, w: T) -> Step<T>
     requires { T.SCALE ≤ 15 }
     ensures { result ≡ polynomials.slope_term_row T.ops T.SCALE i b u w }
 {
-    let weighted = val!(val!(whole::<T>(i)).times(b));
-    weighted.plus(val!(u.times(w)))
+    val!(weighted(i, b)).plus(val!(u.times(w)))
 }
 
 /// W1 of the slope of the even terms.
@@ -101,7 +108,7 @@ fn slope<T: Arith>(b: &Terms<T>, u: T) -> Step<T>
     requires { T.SCALE ≤ 15 }
     ensures { result ≡ rows.slope_row T.ops T.SCALE 1 u b.now }
 {
-    let w8 = val!(val!(whole::<T>(8)).times(b.b8));
+    let w8 = val!(weighted(8, b.b8));
     let w7 = val!(slope_term(7, b.b7, u, w8));
     let w6 = val!(slope_term(6, b.b6, u, w7));
     let w5 = val!(slope_term(5, b.b5, u, w6));
