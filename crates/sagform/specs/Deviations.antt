@@ -4,7 +4,7 @@ use Rattle.std.proofs.lemmas.Int.{ints}
 use Rattle.std.specs.Prelude.{ℤ, pos, negsuc, ◌≤ℤ◌, ◌+ℤ◌, int_le, IsTrue}
 use Rattle.fixdec.specs.Decimal.{Decimal, value, ten_power}
 use Rattle.fixdec.specs.Ends.{Ends}
-use Rattle.fixdec.specs.Algebra.PowerLaws.{dec_span_member, value_between, OnVal-ends, dec_floor_is, dec_ceil_is}
+use Rattle.fixdec.specs.Algebra.PowerLaws.{value_between, OnVal-ends, dec_floor_is, dec_ceil_is}
 use Rattle.fixdec.specs.Frac.{◌≤Q◌, whole}
 use Rattle.fixdec.specs.Algebra.MemberLaws.{units_nn}
 use Rattle.fixdec.specs.Algebra.OrderLaws.{mul_nn, zero_le_whole, le_of_lt, lt_from_not}

@@ -1,6 +1,6 @@
 -- The rows of the even terms and of their slope hold the sums in scaled coefficients.
 use Rattle.std.proofs.Common.{ℕ, suc, List, [], ◌∷◌}
-use Rattle.std.specs.Prelude.{ℤ, pos}
+use Rattle.std.specs.Prelude.{pos}
 use Rattle.fixdec.specs.Decimal.{Decimal, value}
 use Rattle.fixdec.specs.Frac.{Frac, ◌≈◌, ◌+Q◌, ◌*Q◌, whole}
 use Rattle.fixdec.specs.Algebra.Linear.{linear, no_fact, reads}

@@ -1,5 +1,5 @@
 -- The rows of the even terms, with the last value alone in hand.
-use Rattle.std.proofs.Common.{◌≡◌, ℕ, suc, List, [], ◌∷◌, refl, sym, ap, ◌∙◌}
+use Rattle.std.proofs.Common.{◌≡◌, ℕ, List, [], ◌∷◌, refl, ap, ◌∙◌}
 use Rattle.std.specs.Prelude.{pos}
 use Rattle.fixdec.specs.Operations.{Operations}
 use Rattle.fixdec.specs.Steps.{◌>>=◌}
@@ -49,14 +49,14 @@ module _ {A : Type 0} (o : Operations A) (scale : ℕ) where
 
   after_sum : (t : Step A) (u b c : A) (vs : List A)
       → (((t >>= λ p. o.plus c p >>= λ y. Val (y ∷ vs)) >>= λ ws. horner_step o u b ws) >>= λ ws. first_of o scale ws)
-        ≡ ((t >>= λ p. o.plus c p >>= λ y. Val (y ∷ vs)) >>= λ ws. first_of o scale ws) >>= λ v. term_row b u v
+      ≡ ((t >>= λ p. o.plus c p >>= λ y. Val (y ∷ vs)) >>= λ ws. first_of o scale ws) >>= λ v. term_row b u v
   after_sum (Val p) u b c vs = after_step (o.plus c p) u b vs
   after_sum Empty u b c vs = refl
   after_sum (Lost w) u b c vs = refl
 
   after_rows : (r : Step (List A)) (u b c : A)
       → (((r >>= λ vs. horner_step o u c vs) >>= λ ws. horner_step o u b ws) >>= λ ws. first_of o scale ws)
-        ≡ ((r >>= λ vs. horner_step o u c vs) >>= λ ws. first_of o scale ws) >>= λ v. term_row b u v
+      ≡ ((r >>= λ vs. horner_step o u c vs) >>= λ ws. first_of o scale ws) >>= λ v. term_row b u v
   after_rows (Val []) u b c = step_kept (o.times u c) b (c ∷ [])
   after_rows (Val (v ∷ vs)) u b c = after_sum (o.times u v) u b c (v ∷ vs)
   after_rows Empty u b c = refl

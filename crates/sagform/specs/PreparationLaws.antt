@@ -1,13 +1,12 @@
 -- The preparation of a surface holds the values that the surface has in every chain.
-use Rattle.std.proofs.Common.{◌≡◌, ℕ, zero, suc, ◌-◌, ◌<◌, Bool, true, false, length, refl, arith}
+use Rattle.std.proofs.Common.{◌≡◌, ℕ, zero, suc, ◌<◌, Bool, true, false, length, refl, arith}
 use borrow.Author.Tests.{ltb-true}
-use Rattle.std.specs.Prelude.{ℤ, pos, Option, Some, None, nat_lt, if◌then◌else◌}
+use Rattle.std.specs.Prelude.{ℤ, pos, Some, None, nat_lt, if◌then◌else◌}
 use Rattle.fixdec.specs.Decimal.{value}
-use Rattle.fixdec.specs.Frac.{Frac, ◌+Q◌, ◌*Q◌, whole}
+use Rattle.fixdec.specs.Frac.{Frac, ◌*Q◌, whole}
 use Rattle.fixdec.specs.Member.{Symbols}
 use Rattle.fixdec.specs.Operations.{Operations, IsLawful}
 use Rattle.fixdec.specs.Steps.{OnVal, OnVal-then, ◌>>=◌}
-use Rattle.fixdec.specs.declared.step.Step.{Step}
 use Rattle.fixdec.specs.declared.step.Step.TheVariants.{Val}
 use Rattle.lensmodel.specs.Claims.Enclosure.{HasIndices, CoversResidual, HoldsIf, HoldsSquare, HoldsZone, HoldsEach, HoldsPrepared, EnclosesPreparation}
 use Rattle.lensmodel.specs.Equations.Chain.{Chain, index_behind}
@@ -19,8 +18,6 @@ use Rattle.lensmodel.specs.Setup.Values.{surface_at, image, owner, curvature, co
 use Rattle.lensmodel.specs.Setup.WellFormed.{IsWellFormed}
 use Rattle.lensmodel.specs.Setup.Zones.{zone_of, scaled_coefficients}
 use Rattle.lensmodel.specs.declared.setup.Setup.{Setup}
-use Rattle.lensmodel.specs.declared.surface.Surface.{Surface}
-use Rattle.lensmodel.specs.declared.tolerance.TolKind.{TolKind}
 use Rattle.lensmodel.specs.declared.tolerance.TolKind.TheVariants.{Curv, Thic, Indx}
 use Rattle.sagform.specs.PreparedValues.{thickness-member, medium_row-member, square_row-member, zone_row-member, decimal_rows-member}
 use Rattle.sagform.specs.Setups.{well_zoned, well_known}

@@ -1,12 +1,11 @@
 -- Each row of the preparation of a surface holds its value in every chain.
-use Rattle.std.proofs.Common.{◌≡◌, ℕ, zero, suc, ◌<◌, Bool, true, false, List, [], ◌∷◌, arith}
+use Rattle.std.proofs.Common.{ℕ, List, [], ◌∷◌, arith}
 use Rattle.std.proofs.lemmas.Int.{ints}
-use Rattle.std.specs.Prelude.{ℤ, pos, negsuc, ◌≤ℤ◌, Option, Some, None, if◌then◌else◌}
+use Rattle.std.specs.Prelude.{ℤ, pos, negsuc, ◌≤ℤ◌, Option, Some, None}
 use Rattle.fixdec.specs.Decimal.{Decimal, value, tenth_power}
-use Rattle.fixdec.specs.Ends.{Ends}
-use Rattle.fixdec.specs.Frac.{Frac, ◌≈◌, ◌≤Q◌, ◌+Q◌, ◌*Q◌, whole}
+use Rattle.fixdec.specs.Frac.{Frac, ◌≈◌, ◌*Q◌, whole}
 use Rattle.fixdec.specs.Algebra.FracLaws.{≈_refl, ≈_sym, mul_same}
-use Rattle.fixdec.specs.Algebra.Linear.{linear, name, no_fact, reads}
+use Rattle.fixdec.specs.Algebra.Linear.{linear, no_fact, reads}
 use Rattle.fixdec.specs.Algebra.MemberLaws.{units_nn}
 use Rattle.fixdec.specs.Algebra.Order.{le_trans, le_whole, le_whole_out}
 use Rattle.fixdec.specs.Algebra.OrderLaws.{mul_nn, square_nn}
@@ -15,17 +14,14 @@ use Rattle.fixdec.specs.Algebra.Terms.{is, is_mul, is_whole, same_if}
 use Rattle.fixdec.specs.Member.{IsMember, Symbols}
 use Rattle.fixdec.specs.Operations.{Operations, IsLawful}
 use Rattle.fixdec.specs.Scaled.{dec_span}
-use Rattle.fixdec.specs.Steps.{OnVal, OnVal-then, OnVal-map, ◌>>=◌}
+use Rattle.fixdec.specs.Steps.{OnVal, OnVal-then, ◌>>=◌}
 use Rattle.fixdec.specs.Zone.{zone, nano}
-use Rattle.fixdec.specs.declared.step.Step.{Step}
-use Rattle.fixdec.specs.declared.step.Step.TheVariants.{Val}
-use Rattle.lensmodel.specs.Claims.Enclosure.{HoldsIf, HoldsSquare, HoldsZone, HoldsEach}
-use Rattle.lensmodel.specs.Equations.Crossing as crossing
+use Rattle.lensmodel.specs.Claims.Enclosure.{HoldsSquare, HoldsZone, HoldsEach}
 use Rattle.lensmodel.specs.Equations.Dispersion.{IsIndex, IsKnown}
 use Rattle.lensmodel.specs.Rows.Constants.{decimal_row, whole_row}
 use Rattle.lensmodel.specs.Rows.Laws.{Covers, decimal_member, whole_member, on_same}
-use Rattle.lensmodel.specs.Rows.Preparation.{square_row, decimal_rows, medium_row, with_symbol}
-use Rattle.lensmodel.specs.Setup.Values.{thickness_of, written_thickness, zero_decimal}
+use Rattle.lensmodel.specs.Rows.Preparation.{square_row, decimal_rows, medium_row}
+use Rattle.lensmodel.specs.Setup.Values.{thickness_of, written_thickness}
 use Rattle.lensmodel.specs.Setup.Zones.{zone_by}
 use Rattle.lensmodel.specs.declared.glass.Medium.{Medium}
 use Rattle.lensmodel.specs.declared.glass.Medium.TheVariants.{Air, Of}

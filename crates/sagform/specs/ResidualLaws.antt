@@ -1,11 +1,11 @@
 -- The units of a scale that stand for the residual cover it.
-use Rattle.std.proofs.Common.{◌≡◌, ℕ, ◌+◌, ◌-◌, ◌<◌, ◌≤◌, ◌^◌, [], ◌∷◌, ◌⊎◌, inl, inr, true, false, leb, ap, subst, arith}
-use Rattle.std.specs.Prelude.{ℤ, pos}
+use Rattle.std.proofs.Common.{◌≡◌, ℕ, ◌+◌, ◌-◌, ◌≤◌, ◌^◌, [], ◌∷◌, inl, inr, subst, arith}
+use Rattle.std.specs.Prelude.{pos}
 use Rattle.std.proofs.Math.Nat.{pow-le-pow_right}
 use Rattle.std.proofs.lemmas.Bool.Decides.{leb_tells}
 use Rattle.std.proofs.lemmas.Int.{ints}
 use Rattle.fixdec.specs.Decimal.{tenth_power}
-use Rattle.fixdec.specs.Frac.{Frac, ◌≈◌, ◌≤Q◌, ◌*Q◌, whole}
+use Rattle.fixdec.specs.Frac.{◌≈◌, ◌≤Q◌, ◌*Q◌, whole}
 use Rattle.fixdec.specs.Algebra.Linear.{linear, fact, no_fact, reads}
 use Rattle.fixdec.specs.Algebra.Order.{le_of_same, le_whole, nn_in}
 use Rattle.fixdec.specs.Algebra.OrderLaws.{le_mul_left, le_same_right}

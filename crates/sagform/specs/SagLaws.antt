@@ -1,10 +1,9 @@
 -- The sag of an even asphere, and the slope of a surface, hold the exact ones.
 use Rattle.std.proofs.Common.{◌≡◌, ℕ, suc, [], ◌∷◌, sym, subst}
-use Rattle.std.specs.Prelude.{ℤ, pos, negsuc, neg_ℤ}
-use Rattle.fixdec.specs.Decimal.{value, ten_power}
-use Rattle.fixdec.specs.Frac.{Frac, ◌≈◌, ◌≤Q◌, ◌+Q◌, ◌-Q◌, ◌*Q◌, whole}
-use Rattle.fixdec.specs.Algebra.FracLaws.{≈_refl, ≈_sym, ≈_trans}
-use Rattle.fixdec.specs.Algebra.Linear.{linear, linear_le, fact, name, order, no_fact, reads}
+use Rattle.std.specs.Prelude.{ℤ, pos}
+use Rattle.fixdec.specs.Frac.{Frac, ◌≈◌, ◌+Q◌, ◌-Q◌, ◌*Q◌, whole}
+use Rattle.fixdec.specs.Algebra.FracLaws.{≈_refl}
+use Rattle.fixdec.specs.Algebra.Linear.{linear, linear_le, order, no_fact, reads}
 use Rattle.fixdec.specs.Algebra.OrderLaws.{zero_le_one}
 use Rattle.fixdec.specs.Member.{Symbols}
 use Rattle.fixdec.specs.Operations.{Operations, IsLawful}
@@ -14,15 +13,13 @@ use Rattle.lensmodel.specs.Claims.Enclosure.{CoversResidual, HoldsPrepared, Hold
 use Rattle.lensmodel.specs.Equations.Chain.{Chain}
 use Rattle.lensmodel.specs.Equations.Residual.{IsWithin}
 use Rattle.lensmodel.specs.Rows.Bending.{normal_rows, normal_by, conic_slope_row, polynomial_slope_row}
-use Rattle.lensmodel.specs.Rows.Constants.{whole_row}
 use Rattle.lensmodel.specs.Rows.Crossing.{Met}
 use Rattle.lensmodel.specs.Rows.Laws.{on_same, widened}
 use Rattle.lensmodel.specs.Rows.Preparation.{Prepared}
-use Rattle.lensmodel.specs.Rows.Sag.{sag_rows, sum_row, conic_rows, polynomial_row, slope_row}
+use Rattle.lensmodel.specs.Rows.Sag.{sag_rows, conic_rows, polynomial_row, slope_row}
 use Rattle.lensmodel.specs.Setup.Values.{surface_at, curvature, conic_factor, coefficients, coefficients_of, even_terms, slope_terms, eps}
 use Rattle.lensmodel.specs.Setup.Zones.{norm_of, scaled_coefficients}
 use Rattle.lensmodel.specs.declared.setup.Setup.{Setup}
-use Rattle.lensmodel.specs.declared.surface.Surface.{Surface}
 use Rattle.lensmodel.specs.declared.surface.SurfaceKind.{SurfaceKind}
 use Rattle.lensmodel.specs.declared.surface.SurfaceKind.TheVariants.{Standard, EvenAsph}
 use Rattle.sagform.specs.ConicLaws.{IsConicAt, conic_rows-member}
@@ -113,7 +110,7 @@ module _ {A : Type 0} (scale : ℕ) (o : Operations A) (member : A → Symbols �
   normal_by-member : (kind : SurfaceKind) → (surface_at s (suc j)).kind ≡ kind → (rho w : A) (e : ℤ) → CoversResidual scale s e
       → member rho c.symbols (c.rho (suc j)) → member w c.symbols (c.w (suc j)) → (slope : Frac)
       → IsWithin (eps s) (slope *Q c.w (suc j))
-        (curvature s c.symbols (suc j) +Q whole (pos 2) *Q c.w (suc j) *Q slope_terms 1 (coefficients_of kind (surface_at s (suc j))) (c.rho (suc j)))
+      (curvature s c.symbols (suc j) +Q whole (pos 2) *Q c.w (suc j) *Q slope_terms 1 (coefficients_of kind (surface_at s (suc j))) (c.rho (suc j)))
       → OnVal (normal_by o scale kind face rho w e) (λ a. member a c.symbols slope)
   normal_by-member Standard k rho w e covers hr hw slope h =
       let near = conic_slope_near (eps s) slope (c.w (suc j)) (curvature s c.symbols (suc j)) (whole (pos 0)) h in
@@ -126,8 +123,8 @@ module _ {A : Type 0} (scale : ℕ) (o : Operations A) (member : A → Symbols �
       let t = slope_terms 1 (coefficients_of EvenAsph f) (c.rho (suc j)) in
       let q = slope -Q (t +Q t) in
       let at_kind : OnVal (polynomial_slope_row o scale face rho) (λ a. member a sy t) =
-            subst (λ (m : SurfaceKind). OnVal (polynomial_slope_row o scale face rho) (λ a. member a sy (slope_terms 1 (coefficients_of m f) (c.rho (suc j))))) k
-            (polynomial_slope_row-member scale o member law s c j face holds rho (c.rho (suc j)) hr) in
+      subst (λ (m : SurfaceKind). OnVal (polynomial_slope_row o scale face rho) (λ a. member a sy (slope_terms 1 (coefficients_of m f) (c.rho (suc j))))) k
+      (polynomial_slope_row-member scale o member law s c j face holds rho (c.rho (suc j)) hr) in
       OnVal-then (polynomial_slope_row o scale face rho) _ (λ a. member a sy t) _ at_kind λ a ha.
       OnVal-then (conic_slope_row o face w e) _ (λ x. member x sy q) _
       (conic_slope-member scale o member law s c j face holds w e covers (c.w (suc j)) q hw (conic_slope_near (eps s) slope (c.w (suc j)) (curvature s sy (suc j)) t h)) λ x hx.
@@ -148,4 +145,4 @@ unfolding normal_rows
 normal_rows-encloses scale o member law face h e s c j holds covers met slope k =
     normal_by-member scale o member law s c j face holds face.kind (sym holds.kind) h.rho h.w e covers met.rho met.w slope
     (subst (λ (m : SurfaceKind). IsWithin (eps s) (slope *Q c.w (suc j))
-      (curvature s c.symbols (suc j) +Q whole (pos 2) *Q c.w (suc j) *Q slope_terms 1 (coefficients_of m (surface_at s (suc j))) (c.rho (suc j)))) (sym holds.kind) k)
+    (curvature s c.symbols (suc j) +Q whole (pos 2) *Q c.w (suc j) *Q slope_terms 1 (coefficients_of m (surface_at s (suc j))) (c.rho (suc j)))) (sym holds.kind) k)

@@ -1,19 +1,14 @@
 -- A value with the symbol of its tolerance holds the value with its deviation.
-use Rattle.std.proofs.Common.{◌≡◌, ℕ, suc, ◌+◌, ◌<◌, ◌≤◌, Bool, true, false, List, [], ◌∷◌, length, arith}
-use Rattle.std.proofs.lemmas.Int.{ints}
+use Rattle.std.proofs.Common.{ℕ, suc, ◌+◌, ◌<◌, ◌≤◌, Bool, true, false, List, [], ◌∷◌, length, arith}
 use Rattle.std.specs.List.{All}
-use Rattle.std.specs.Prelude.{ℤ, pos, ◌≤ℤ◌, IsTrue, if◌then◌else◌}
+use Rattle.std.specs.Prelude.{pos, IsTrue, if◌then◌else◌}
 use Rattle.fixdec.specs.Decimal.{Decimal, value}
-use Rattle.fixdec.specs.Ends.{Ends}
 use Rattle.fixdec.specs.Frac.{Frac, ◌≈◌, ◌+Q◌, ◌*Q◌, whole}
 use Rattle.fixdec.specs.Algebra.Linear.{linear, no_fact, reads}
-use Rattle.fixdec.specs.Algebra.PowerLaws.{dec_span_member}
 use Rattle.fixdec.specs.Member.{IsMember, Symbols}
 use Rattle.fixdec.specs.Operations.{Operations, IsLawful}
 use Rattle.fixdec.specs.Scaled.{dec_span}
 use Rattle.fixdec.specs.Steps.{OnVal, OnVal-then, ◌>>=◌}
-use Rattle.fixdec.specs.declared.step.Step.{Step}
-use Rattle.fixdec.specs.declared.step.Step.TheVariants.{Val}
 use Rattle.lensmodel.specs.Rows.Preparation.{with_symbol, with_symbol_from}
 use Rattle.lensmodel.specs.Setup.Ranges.{is_not_negative}
 use Rattle.lensmodel.specs.Setup.Values.{deviation, deviation_from, stands_on, tolerances, image}
@@ -39,7 +34,7 @@ module _ {A : Type 0} (scale : ℕ) (o : Operations A) (member : A → Symbols �
       → i < 32 → IsTrue (is_not_negative t.delta) → member v sy u
       → OnVal (with_symbol_from o scale (suc i) ts kind j v) (λ r. member r sy (u +Q deviation_from (suc i) ts sy kind j))
       → OnVal (if b then (dec_span scale t.delta >>= λ d. o.symbol v i d) else with_symbol_from o scale (suc i) ts kind j v)
-        (λ r. member r sy (u +Q (if b then value t.delta *Q sy.at i else deviation_from (suc i) ts sy kind j)))
+      (λ r. member r sy (u +Q (if b then value t.delta *Q sy.at i else deviation_from (suc i) ts sy kind j)))
   symbol_cases true i t ts kind j v u l h m k = symbol-member i t.delta v u l h m
   symbol_cases false i t ts kind j v u l h m k = k
 

@@ -4,7 +4,7 @@ use Rattle.std.proofs.Common.{◌≡◌, ℕ, zero, suc, ◌-◌, ◌^◌, List,
 use Rattle.std.specs.Prelude.{ℤ, pos, negsuc, neg_ℤ, ◌*ℤ◌, ◌+ℤ◌, map, slice_index_or}
 use Rattle.fixdec.specs.Decimal.{Decimal, value, ten_power, tenth_power}
 use Rattle.fixdec.specs.Frac.{Frac, ◌≈◌, ◌+Q◌, ◌-Q◌, ◌*Q◌, whole}
-use Rattle.fixdec.specs.Algebra.FracLaws.{≈_refl, ≈_sym, ≈_trans}
+use Rattle.fixdec.specs.Algebra.FracLaws.{≈_refl, ≈_trans}
 use Rattle.fixdec.specs.Algebra.IntLaws.{ringℤ}
 use Rattle.fixdec.specs.Algebra.Linear.{linear, fact, name, no_fact, reads}
 use Rattle.fixdec.specs.Algebra.PowerLaws.{ten_power-add, value-shifted}
@@ -123,7 +123,7 @@ slopes_scaled k rho cs =
 -- ---- the coefficients of a surface
 scaled_by : (kind : SurfaceKind) (f : Surface) (k : ℤ)
     → map (λ (i : ℕ). dec_shifted (slice_index_or (written_coefficients kind f) (i - 1) zero_decimal) (k *ℤ pos i)) (1 ∷ 2 ∷ 3 ∷ 4 ∷ 5 ∷ 6 ∷ 7 ∷ 8 ∷ [])
-      ≡ scaled_from k 1 (written_coefficients kind f)
+    ≡ scaled_from k 1 (written_coefficients kind f)
 scaled_by Standard f k = refl
 scaled_by EvenAsph f k = refl
 

@@ -1,6 +1,6 @@
 -- The zone of a surface as it is prepared: a span of one number at scale 9, where there is one.
-use Rattle.std.proofs.Common.{◌≡◌, ℕ, suc, refl}
-use Rattle.std.specs.Prelude.{ℤ, pos, negsuc, ◌*ℤ◌, ◌≤ℤ◌, Bool, true, false, List, [], ◌∷◌, map, Option, Some, None, is_none, int_lt, int_le, ◌&&◌, if◌then◌else◌}
+use Rattle.std.proofs.Common.{◌≡◌, ℕ, refl}
+use Rattle.std.specs.Prelude.{ℤ, pos, negsuc, ◌*ℤ◌, Bool, true, false, List, [], ◌∷◌, map, Option, Some, None, is_none, int_lt, int_le, ◌&&◌, if◌then◌else◌}
 use Rattle.fixdec.specs.Decimal.{Decimal}
 use Rattle.fixdec.specs.Ends.{Ends}
 use Rattle.fixdec.specs.Scaled.{dec_shifted}

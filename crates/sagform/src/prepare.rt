@@ -22,8 +22,8 @@ ghost use Rattle.sagform.specs.Setups.{IsZoned};
 ghost use Rattle.sagform.specs.Zoned.{zone_at, zone_decimal, norm_at, scaled_at};
 
 use crate::constant::{decimal, residual_units, whole};
-use crate::index::index;
 use crate::face::Face;
+use crate::index::index;
 use crate::layout::{medium, owner, reflects, surface, travel};
 use crate::steps::Steps;
 use crate::terms::Terms;

@@ -1,6 +1,4 @@
-use Rattle.std.proofs.Common.{to_z, of_z, ◌≡◌, refl}
-use Rattle.std.specs.Prelude.{ℤ, pos, ◌*ℤ◌}
-use Rattle.std.specs.Int.{w32}
+use Rattle.std.proofs.Common.{refl}
 use Rattle.sagform.proofs.Norms.{norm_times, computed_times}
 use Rattle.sagform.proofs.prepare.coefficient.Goals as goal
 
@@ -20,6 +18,10 @@ pub returns : goal.returns
 returns g c =
     let n = c.norm in
     let small = norm_times n.result c.args.i n.ensures.low n.ensures.high c.requires.high in
-    rw (c.decimal.ensures, c.shifted.ensures.value, c.written.ensures.value,
+    rw (
+      c.decimal.ensures,
+      c.shifted.ensures.value,
+      c.written.ensures.value,
       computed_times n.result c.from.result c.args.i (record { sfits = n.type_inv }) (record { sfits = c.from.type_inv }) c.from.ensures small.fits,
-      n.ensures.value) refl
+      n.ensures.value,
+    ) refl

@@ -80,15 +80,35 @@ returns-in-Lost-terms g c = rw (← c.in-Val.ensures, ← (rw c.requires.next at
 pub returns : goal.returns
 unfolding preparation_rows preparation_by
 returns g c =
-    rw (to_z-of_z w32 c.norm_of_surface.result (record { sfits = c.norm_of_surface.type_inv }), to_z-of_z w32 c.travel.result (record { sfits = c.travel.type_inv }),
-      c.norm_of_surface.ensures.value, c.surface.ensures, c.travel.ensures, c.reflects.ensures, c.requires.next,
-      ← c.in-Val.ensures, ← (rw c.requires.next at c.in-Val-curvature.ensures), ← (rw c.requires.next at c.in-Val-conic_factor.ensures), ← c.in-Val-times.ensures, ← c.in-Val-index_behind.ensures, ← (rw c.requires.next at c.in-Val-index_if.ensures), ← (rw c.requires.next at c.in-Val-rim2.ensures), ← (rw c.requires.next at c.in-Val-zone2.ensures.exact), ← (rw c.requires.next at c.in-Val-terms.ensures)) refl
+    rw (
+      to_z-of_z w32 c.norm_of_surface.result (record { sfits = c.norm_of_surface.type_inv }),
+      to_z-of_z w32 c.travel.result (record { sfits = c.travel.type_inv }),
+      c.norm_of_surface.ensures.value,
+      c.surface.ensures,
+      c.travel.ensures,
+      c.reflects.ensures,
+      c.requires.next,
+      ← c.in-Val.ensures,
+      ← (rw c.requires.next at c.in-Val-curvature.ensures),
+      ← (rw c.requires.next at c.in-Val-conic_factor.ensures),
+      ← c.in-Val-times.ensures,
+      ← c.in-Val-index_behind.ensures,
+      ← (rw c.requires.next at c.in-Val-index_if.ensures),
+      ← (rw c.requires.next at c.in-Val-rim2.ensures),
+      ← (rw c.requires.next at c.in-Val-zone2.ensures.exact),
+      ← (rw c.requires.next at c.in-Val-terms.ensures),
+    ) refl
 
 pub invariant_of-result : goal.invariant_of-result
 invariant_of-result g c =
-    let fits = to_z-of_z w32 c.norm_of_surface.result (record { sfits = c.norm_of_surface.type_inv }) in
-    (rw fits c.norm_of_surface.ensures.low, rw fits c.norm_of_surface.ensures.high, rw c.surface.ensures c.in-Val-zone2.ensures.kept,
-      c.widen.ensures, c.square.ensures, c.square_if.ensures)
+    let fits = to_z-of_z w32 c.norm_of_surface.result (record { sfits = c.norm_of_surface.type_inv }) in (
+      rw fits c.norm_of_surface.ensures.low,
+      rw fits c.norm_of_surface.ensures.high,
+      rw c.surface.ensures c.in-Val-zone2.ensures.kept,
+      c.widen.ensures,
+      c.square.ensures,
+      c.square_if.ensures,
+    )
 
 pub zone2-requires-clause-zoned : goal.zone2-requires-clause-zoned
 zone2-requires-clause-zoned g c = rw c.requires.next (well_zoned c.args.s.now c.args.before c.requires.well (omega arith))
