@@ -1,1 +1,14 @@
+pub mod ConicLaws
+pub mod Deviations
+pub mod Faces
+pub mod HornerLaws
 pub mod IndexLaws
+pub mod Polynomials
+pub mod PreparationLaws
+pub mod PreparedValues
+pub mod ResidualLaws
+pub mod SagLaws
+pub mod Setups
+pub mod SymbolLaws
+pub mod Terms
+pub mod Zoned

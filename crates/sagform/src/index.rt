@@ -7,36 +7,20 @@ ghost use Rattle.lensmodel.specs.Equations.Dispersion.{IsKnown};
 ghost use Rattle.lensmodel.specs.Rows.Index as rows;
 ghost use Rattle.sagform.specs.IndexLaws.{EnclosesIndex};
 
+use crate::constant::{decimal, whole};
 use enclose::arith::Arith;
-use exactdec::scale;
 use fixdec::dec::Dec;
 use fixdec::span::Span;
 use fixdec::step::Step;
 use fixdec::val;
 use lensmodel::glass::{Glass, Medium};
 
-/// A decimal as a value.
-fn decimal<T: Arith>(v: &Dec) -> Step<T>
-    requires { T.SCALE ≤ 15 }
-    ensures { result ≡ constants.decimal_row T.ops T.SCALE v.now }
-{
-    Step::Val(T::of_span(val!(scale::span(v, T::SCALE))))
-}
-
-/// One as a value.
-fn one<T: Arith>() -> Step<T>
-    requires { T.SCALE ≤ 15 }
-    ensures { result ≡ constants.whole_row T.ops T.SCALE (pos 1) }
-{
-    decimal(&Dec { mant: 1, exp: 0 })
-}
-
 /// Schott's formula at the square `v` of the wavelength.
 fn schott<T: Arith>(g: &Glass, v: T) -> Step<T>
     requires { T.SCALE ≤ 15 }
     ensures { result ≡ rows.schott_rows T.ops T.SCALE g.now v }
 {
-    let r = val!(val!(one::<T>()).over(v));
+    let r = val!(val!(whole::<T>(1)).over(v));
     let h4 = val!(val!(val!(decimal::<T>(&g.c5)).times(r)).plus(val!(decimal(&g.c4))));
     let h3 = val!(val!(h4.times(r)).plus(val!(decimal(&g.c3))));
     let h2 = val!(val!(h3.times(r)).plus(val!(decimal(&g.c2))));
@@ -60,7 +44,7 @@ fn sellmeier<T: Arith>(g: &Glass, v: T) -> Step<T>
     let t1 = val!(resonance(&g.c0, &g.c1, v));
     let t2 = val!(resonance(&g.c2, &g.c3, v));
     let t3 = val!(resonance(&g.c4, &g.c5, v));
-    val!(val!(val!(one::<T>()).plus(t1)).plus(t2)).plus(t3)
+    val!(val!(val!(whole::<T>(1)).plus(t1)).plus(t2)).plus(t3)
 }
 
 /// The glass's formula at the square `v` of the wavelength.
@@ -84,7 +68,7 @@ fn rows_of<T: Arith>(m: &Medium, wave: Span, e: i128) -> Step<T>
     ensures { result ≡ rows.index_rows T.ops T.SCALE m.now wave e }
 {
     match m {
-        Medium::Air => one(),
+        Medium::Air => whole(1),
         Medium::Of(g) => {
             let v = val!(T::of_span(wave).square());
             val!(val!(formula(g, v)).widen(e)).root()
