@@ -7,7 +7,7 @@ use Rattle.std.proofs.lemmas.Int.{ints, fits_signed_from_abs}
 use Rattle.std.specs.Int.{w32}
 use Rattle.std.specs.Prelude.{unsigned_abs, FitsSigned}
 use Rattle.fixdec.specs.Decimal.{IsKept}
-use Rattle.fixdec.specs.Word.{Parts, digits, from_first, significant, kept, signed, number, AreDigits, IsReadable}
+use Rattle.fixdec.specs.Word.{Parts, digits, from_first, significant, kept_decimal, signed, number, AreDigits, IsReadable}
 use Rattle.fixdec.specs.Reading.{is_readable}
 use Rattle.exactdec.specs.Reading.{judged}
 use Rattle.exactdec.specs.declared.read.DecFault.TheVariants.{Digits, Exponent}
@@ -23,12 +23,12 @@ pub judged_long : (p : Parts) → 30 < length (significant p) → judged p ≡ E
 unfolding judged
 judged_long p h = rw (lt-ltb 30 (length (significant p)) h)
 
-pub kept-zero : (p : Parts) → length (significant p) ≡ 0 → kept p ≡ record { mant = pos 0; exp = pos 0 }
-unfolding kept
+pub kept-zero : (p : Parts) → length (significant p) ≡ 0 → kept_decimal p ≡ record { mant = pos 0; exp = pos 0 }
+unfolding kept_decimal
 kept-zero p h = elim (eqb_tells (length (significant p)) 0) [ inl t ↦ rw t.0 | inr t ↦ absurd (t.1 h) ]
 
-pub kept-some : (p : Parts) → 0 < length (significant p) → kept p ≡ record { mant = signed p.sign (number (significant p)); exp = exponent p }
-unfolding kept
+pub kept-some : (p : Parts) → 0 < length (significant p) → kept_decimal p ≡ record { mant = signed p.sign (number (significant p)); exp = exponent p }
+unfolding kept_decimal
 kept-some p h = elim (eqb_tells (length (significant p)) 0) [ inl t ↦ let e = t.1 in absurd (omega arith) | inr t ↦ rw t.0 ]
 
 pub judged_zero : (p : Parts) → length (significant p) ≡ 0 → judged p ≡ Ok (record { mant = pos 0; exp = pos 0 })

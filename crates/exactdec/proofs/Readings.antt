@@ -12,7 +12,7 @@ use Rattle.fixdec.specs.Algebra.IntLaws.{ringℤ}
 use Rattle.fixdec.specs.Algebra.Ring.{var, neg, ◌⊗◌}
 use Rattle.fixdec.specs.Algebra.Linear.{linear, fact, no_fact, reads}
 use Rattle.fixdec.specs.Algebra.PowerLaws.{whole-mul, value-times, value-zero}
-use Rattle.fixdec.specs.Word.{Parts, AreDigits, Spells, spelling, digits, from_first, significant, kept, written, signed, number, IsReadable}
+use Rattle.fixdec.specs.Word.{Parts, AreDigits, Spells, spelling, digits, from_first, significant, kept_decimal, written_decimal, signed, number, IsReadable}
 use Rattle.fixdec.specs.Reading.{is_readable, Split, split, is_whole, decimal_of}
 use Rattle.exactdec.specs.Reading.{IsAnswer, judged, reading}
 use Rattle.exactdec.specs.Stages.{bare, IsSplit, IsNotSplit, HasDigits}
@@ -33,9 +33,9 @@ judged_answer : (w : List ℕ) (p : Parts) → Spells w p → IsAnswer w (judged
 unfolding judged
 judged_answer w p h = elim (cases_lt 30 (length (significant p))) [
   | inl l ↦ rw (lt-ltb 30 (length (significant p)) l) (p, h, l)
-  | inr l ↦ elim (cases_Bool (is_readable (kept p).exp)) [
-    | inl r ↦ rw (le-ltb 30 (length (significant p)) l, r) (p, h, record { digits = l; exponent = readable_from (kept p).exp r; kept = refl })
-    | inr r ↦ rw (le-ltb 30 (length (significant p)) l, r) (p, h, record { digits = l; exponent = not_readable (kept p).exp r })
+  | inr l ↦ elim (cases_Bool (is_readable (kept_decimal p).exp)) [
+    | inl r ↦ rw (le-ltb 30 (length (significant p)) l, r) (p, h, record { digits = l; exponent = readable_from (kept_decimal p).exp r; kept = refl })
+    | inr r ↦ rw (le-ltb 30 (length (significant p)) l, r) (p, h, record { digits = l; exponent = not_readable (kept_decimal p).exp r })
   ]
 ]
 
@@ -77,13 +77,13 @@ moved m e z =
     (fact (neg_Q (ten_power e)) (whole-mul m (pos (10 ^ z))) (search reads depth 20 fits 4000) no_fact)) tt
 
 -- zeros change no value
-pub value-kept : (p : Parts) → value (kept p) ≈ value (written p)
-unfolding written
+pub value-kept : (p : Parts) → value (kept_decimal p) ≈ value (written_decimal p)
+unfolding written_decimal
 value-kept p = elim (cases_lt 0 (length (significant p))) [
   | inl h ↦
       let z = length (from_first p) - length (significant p) in
       let mant : signed p.sign (number (digits p)) ≡ signed p.sign (number (significant p)) *ℤ pos (10 ^ z) = ap (signed p.sign) (number_is p) ∙ signed-mul p.sign (number (significant p)) (10 ^ z) in
-      subst (λ (d : Decimal). value d ≈ value (written p)) (sym (kept-some p h))
+      subst (λ (d : Decimal). value d ≈ value (written_decimal p)) (sym (kept-some p h))
       (subst (λ (m : ℤ). value (record { mant = signed p.sign (number (significant p)); exp = exponent p }) ≈ value (record { mant = m; exp = signed p.power_sign (number p.power) -ℤ pos (length p.part) })) (sym mant)
       (moved (signed p.sign (number (significant p))) (signed p.power_sign (number p.power) -ℤ pos (length p.part)) z))
   | inr h ↦
@@ -91,28 +91,28 @@ value-kept p = elim (cases_lt 0 (length (significant p))) [
       let empty = ap number (nil_from_length (significant p) none) in
       let zero : number (digits p) ≡ 0 = number_is p ∙ ap (λ (n : ℕ). n * 10 ^ (length (from_first p) - length (significant p))) empty ∙ zero-mul (10 ^ (length (from_first p) - length (significant p))) in
       let mant : signed p.sign (number (digits p)) ≡ pos 0 = ap (signed p.sign) zero ∙ signed-zero p.sign in
-      subst (λ (d : Decimal). value d ≈ value (written p)) (sym (kept-zero p none))
+      subst (λ (d : Decimal). value d ≈ value (written_decimal p)) (sym (kept-zero p none))
       (≈_trans (value-zero (pos 0) (pos 0) (signed p.power_sign (number p.power) -ℤ pos (length p.part)) refl)
       (subst (λ (m : ℤ). value (record { mant = pos 0; exp = signed p.power_sign (number p.power) -ℤ pos (length p.part) }) ≈ value (record { mant = m; exp = signed p.power_sign (number p.power) -ℤ pos (length p.part) })) (sym mant) (≈_refl _)))
 ]
 
 -- a decimal that is judged is the one that is kept
-judged-ok : (p : Parts) (d : Decimal) → judged p ≡ Ok d → d ≡ kept p
+judged-ok : (p : Parts) (d : Decimal) → judged p ≡ Ok d → d ≡ kept_decimal p
 unfolding judged
 judged-ok p d h = elim (cases_lt 30 (length (significant p))) [
   | inl l ↦ absurd (let e = rw (lt-ltb 30 (length (significant p)) l) at h in cc)
-  | inr l ↦ elim (cases_Bool (is_readable (kept p).exp)) [
+  | inr l ↦ elim (cases_Bool (is_readable (kept_decimal p).exp)) [
     | inl r ↦ let e = rw (le-ltb 30 (length (significant p)) l, r) at h in cc
     | inr r ↦ absurd (let e = rw (le-ltb 30 (length (significant p)) l, r) at h in cc)
   ]
 ]
 
 -- what is read of a word has its value
-pub reading_value : (w : List ℕ) (p : Parts) (d : Decimal) → Spells w p → reading w ≡ Ok d → value d ≈ value (written p)
+pub reading_value : (w : List ℕ) (p : Parts) (d : Decimal) → Spells w p → reading w ≡ Ok d → value d ≈ value (written_decimal p)
 reading_value w p d h r =
     let parts : (split w).parts ≡ p = ap (λ (s : Split). s.parts) (split_of_grammar w p h) in
     let judged_is : judged p ≡ Ok d = ap judged (sym parts) ∙ sym (reading-whole w (whole_of_grammar w p h)) ∙ r in
-    subst (λ (x : Decimal). value x ≈ value (written p)) (sym (judged-ok p d judged_is)) (value-kept p)
+    subst (λ (x : Decimal). value x ≈ value (written_decimal p)) (sym (judged-ok p d judged_is)) (value-kept p)
 
 abbrev fault : DecFault → Result Decimal DecFault
 fault e = Err e
@@ -122,7 +122,7 @@ pub reading_fault : (w : List ℕ) (e : DecFault) → IsNotSplit w e → Err e �
 reading_fault w e h = ap fault h.place ∙ sym (reading-other w h.whole)
 
 judged-bare : (p : Parts) → judged (bare p) ≡ judged p
-unfolding judged kept
+unfolding judged kept_decimal
 judged-bare p = refl
 
 -- a word that is
@@ -143,7 +143,7 @@ parts_digits w p h =
 pub answer_of : (w : List ℕ) (r : Result Decimal DecFault) → r ≡ reading w → IsAnswer w r
 answer_of w r h = subst (λ (x : Result Decimal DecFault). IsAnswer w x) (sym h) (reading_answer w)
 
-pub value_of : (w : List ℕ) (r : Result Decimal DecFault) → r ≡ reading w → IfOk r (λ d. (p : Parts) → Spells w p → value d ≈ value (written p))
+pub value_of : (w : List ℕ) (r : Result Decimal DecFault) → r ≡ reading w → IfOk r (λ d. (p : Parts) → Spells w p → value d ≈ value (written_decimal p))
 value_of w (Ok d) h = λ p s. reading_value w p d s (sym h)
 value_of w (Err e) h = tt
 
@@ -153,7 +153,7 @@ judged_decimal w h =
     let p = (split w).parts in
     elim (cases_lt 30 (length (significant p))) [
       | inl l ↦ rw (h, lt-ltb 30 (length (significant p)) l, lt-leb (length (significant p)) 30 l)
-      | inr l ↦ elim (cases_Bool (is_readable (kept p).exp)) [
+      | inr l ↦ elim (cases_Bool (is_readable (kept_decimal p).exp)) [
         | inl r ↦ rw (h, le-ltb 30 (length (significant p)) l, le-leb (length (significant p)) 30 l, r)
         | inr r ↦ rw (h, le-ltb 30 (length (significant p)) l, le-leb (length (significant p)) 30 l, r)
       ]

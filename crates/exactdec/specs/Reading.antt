@@ -2,19 +2,19 @@
 use Rattle.std.specs.Prelude.{◌≡◌, ℕ, ◌<◌, ◌≤◌, List, length, nat_lt, Result, Ok, Err, if◌then◌else◌}
 use Rattle.fixdec.specs.Decimal.{Decimal}
 use Rattle.fixdec.specs.Reading.{is_readable, split, is_whole}
-use Rattle.fixdec.specs.Word.{Parts, Spells, IsWord, IsPlace, spelling, significant, kept, IsReadable}
+use Rattle.fixdec.specs.Word.{Parts, Spells, IsWord, IsPlace, spelling, significant, kept_decimal, IsReadable}
 use Rattle.exactdec.specs.declared.read.DecFault.{DecFault}
 use Rattle.exactdec.specs.declared.read.DecFault.TheVariants.{NotNumber, Digits, Exponent}
 
 -- what is answered for a word of these parts
 pub record IsAccepted (d : Decimal) (p : Parts) : Type 0 where
   pub digits : length (significant p) ≤ 30
-  pub exponent : IsReadable (kept p).exp
-  pub kept : d ≡ kept p
+  pub exponent : IsReadable (kept_decimal p).exp
+  pub kept : d ≡ kept_decimal p
 
 pub record IsExponentFault (p : Parts) : Type 0 where
   pub digits : length (significant p) ≤ 30
-  pub exponent : IsReadable (kept p).exp → ⊥
+  pub exponent : IsReadable (kept_decimal p).exp → ⊥
 
 pub record IsNotNumber (word : List ℕ) (at : ℕ) : Type 0 where
   pub outside : IsWord word → ⊥
@@ -31,7 +31,7 @@ IsAnswer word (Err Exponent) = (p : Parts) × Spells word p × IsExponentFault p
 
 -- the answer to a word of these parts
 unfoldable pub judged : Parts → Result Decimal DecFault
-judged p = if nat_lt 30 (length (significant p)) then Err Digits else (if is_readable (kept p).exp then Ok (kept p) else Err Exponent)
+judged p = if nat_lt 30 (length (significant p)) then Err Digits else (if is_readable (kept_decimal p).exp then Ok (kept_decimal p) else Err Exponent)
 
 -- the answer to a word
 unfoldable pub reading : List ℕ → Result Decimal DecFault

@@ -4,7 +4,7 @@ ghost use Rattle.std.specs.Prelude.{◌≡◌, ◌==◌, ℕ, ℤ, pos, ◌+◌,
 ghost use Rattle.std.specs.Result.{result_ok};
 ghost use Rattle.fixdec.specs.Decimal.{value};
 ghost use Rattle.fixdec.specs.Frac.{◌≈◌};
-ghost use Rattle.fixdec.specs.Word.{Parts as Written, Spells, AreDigits, written, signed as signed_number, number};
+ghost use Rattle.fixdec.specs.Word.{Parts as Written, Spells, AreDigits, written_decimal, signed as signed_number, number};
 ghost use Rattle.fixdec.specs.Reading.{is_digit as is_digit_unit, is_sign, is_point, is_mark, unit_front, unit_after, digits_front, digits_after, mantissa_front, is_readable, decimal_of};
 ghost use Rattle.exactdec.specs.Reading.{IsAnswer, reading, judged};
 ghost use Rattle.exactdec.specs.Stages.{IsSplit, IsNotSplit, HasDigits, parts_of};
@@ -39,7 +39,7 @@ pub fn read(word: &[u16]) -> Result<Dec, DecFault>
     ensures exact { result ≡ reading word.now }
     ensures decimal { result_ok result ≡ decimal_of word.now }
     // Whatever zeros it is written with, the value is mantissa times power of ten.
-    ensures value { IfOk result (λ d. (p : Written) → Spells word.now p → value d ≈ value (written p)) }
+    ensures value { IfOk result (λ d. (p : Written) → Spells word.now p → value d ≈ value (written_decimal p)) }
 {
     let parts = split(word)?;
     judge(&parts)

@@ -1,7 +1,7 @@
 -- The decimal of a word, found by taking the word apart from the left.
 use Rattle.std.specs.Prelude.{◌==◌, ◌&&◌, ◌||◌, ℕ, ℤ, pos, Bool, List, [], ◌∷◌, length, nat_le, nat_lt, int_le, neg_ℤ, Option, Some, None, if◌then◌else◌}
 use Rattle.fixdec.specs.Decimal.{Decimal}
-use Rattle.fixdec.specs.Word.{Parts, digits, significant, kept}
+use Rattle.fixdec.specs.Word.{Parts, digits, significant, kept_decimal}
 
 abbrev pub is_digit : ℕ → Bool
 is_digit c = nat_le 48 c && nat_le c 57
@@ -83,5 +83,5 @@ is_readable exp = int_le (neg_ℤ (pos 60)) exp && int_le exp (pos 30)
 -- the decimal of a word; none where it isn't in the grammar, has more than 30 digits, or has an exponent past its limits
 unfoldable pub decimal_of : List ℕ → Option Decimal
 decimal_of word =
-    if is_whole (split word) && nat_le (length (significant (split word).parts)) 30 && is_readable (kept (split word).parts).exp
-    then Some (kept (split word).parts) else None
+    if is_whole (split word) && nat_le (length (significant (split word).parts)) 30 && is_readable (kept_decimal (split word).parts).exp
+    then Some (kept_decimal (split word).parts) else None

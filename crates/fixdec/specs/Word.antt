@@ -102,8 +102,8 @@ abbrev pub digits : Parts → List ℕ
 digits p = p.whole ++ p.part
 
 -- mantissa times power of ten as the word writes them: each digit after the point takes one from the exponent
-unfoldable pub written : Parts → Decimal
-written p = record { mant = signed p.sign (number (digits p)); exp = signed p.power_sign (number p.power) -ℤ pos (length p.part) }
+unfoldable pub written_decimal : Parts → Decimal
+written_decimal p = record { mant = signed p.sign (number (digits p)); exp = signed p.power_sign (number p.power) -ℤ pos (length p.part) }
 
 -- the digits without the zeros in front
 abbrev pub without_leading : List ℕ → List ℕ
@@ -123,8 +123,8 @@ abbrev pub significant : Parts → List ℕ
 significant p = without_trailing (from_first p)
 
 -- the decimal that is kept: each zero that is dropped at the end adds one to the exponent, and zero has exponent 0
-unfoldable pub kept : Parts → Decimal
-kept p = if length (significant p) == 0 then record { mant = pos 0; exp = pos 0 } else record {
+unfoldable pub kept_decimal : Parts → Decimal
+kept_decimal p = if length (significant p) == 0 then record { mant = pos 0; exp = pos 0 } else record {
   mant = signed p.sign (number (significant p));
   exp = signed p.power_sign (number p.power) -ℤ pos (length p.part) +ℤ pos (length (from_first p) - length (significant p));
 }
