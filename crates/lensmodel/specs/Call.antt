@@ -1,3 +1,4 @@
+-- The top call: the words, the files, the answer and the meaning of each command.
 pub mod Answer
 pub mod First
 pub mod Glass

@@ -1,3 +1,4 @@
+-- What a step, a row and a spot claim of every chain.
 pub mod Closeness
 pub mod Enclosure
 pub mod RowClaims

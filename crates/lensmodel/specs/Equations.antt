@@ -1,3 +1,4 @@
+-- The equations of a ray, and its chains.
 pub mod Bending
 pub mod Chain
 pub mod Chains

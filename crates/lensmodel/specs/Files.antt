@@ -1,3 +1,4 @@
+-- What the files say, line by line, and how they fit together.
 pub mod Catalogue
 pub mod Causes
 pub mod CertValue

@@ -1,3 +1,4 @@
+-- Paraxial rays, first-order values and Seidel sums: equations, rows and laws.
 pub mod FirstOrder
 pub mod FirstOrderRows
 pub mod Laws

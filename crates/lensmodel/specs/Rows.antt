@@ -1,3 +1,4 @@
+-- The rows that are evaluated, over the operations of any arithmetic.
 pub mod Bending
 pub mod Cells
 pub mod Constants

@@ -1,3 +1,4 @@
+-- The setup of a trace and its values.
 pub mod Comparison
 pub mod Launches
 pub mod Media

@@ -1,3 +1,4 @@
+-- What is printed, byte by byte.
 pub mod Book
 pub mod FaultText
 pub mod FirstOrder

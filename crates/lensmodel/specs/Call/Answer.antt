@@ -1,4 +1,4 @@
--- How a call ends, and what it writes: the pieces from which each command's answer is made.
+-- How a call ends, and what it writes: the pieces from which each command's answer is made. Cited by each command.
 use Rattle.std.specs.Prelude.{ℕ, nat_lt, List, length, Option, Some, None, Result, Ok, Err, if◌then◌else◌}
 use Rattle.lensmodel.specs.Texts.FaultText.{absent_line, too_long_line, refused_line, crossed_line}
 use Rattle.lensmodel.specs.declared.fault.CrossFault.{CrossFault}

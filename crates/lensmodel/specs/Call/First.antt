@@ -1,4 +1,5 @@
 -- The command first: its answer, and what the printed values mean. Its words are those of a lens, a catalogue and a job.
+-- Cited by the outcome of a call.
 use Rattle.std.specs.Prelude.{◌≡◌, ℕ, suc, List, [], ◌∷◌, ◌++◌, All}
 use Rattle.fixdec.specs.Decimal.{Decimal}
 use Rattle.lensmodel.specs.Call.Answer.{Files, Answer, answer}

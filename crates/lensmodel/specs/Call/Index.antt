@@ -1,4 +1,4 @@
--- The command index: its words, its file, its answer, and what the printed index means.
+-- The command index: its words, its file, its answer, and what the printed index means. Cited by the outcome of a call.
 use Rattle.std.specs.Prelude.{◌≡◌, ℕ, nat_le, int_lt, pos, List, [], ◌∷◌, length, Option, None, Some, Ok, if◌then◌else◌}
 use Rattle.fixdec.specs.Decimal.{Decimal}
 use Rattle.fixdec.specs.Ends.{Ends}

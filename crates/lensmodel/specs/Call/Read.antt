@@ -1,4 +1,4 @@
--- The command read: its words, its file and its answer.
+-- The command read: its words, its file and its answer. Cited by the outcome of a call.
 use Rattle.std.specs.Prelude.{ℕ, List, [], ◌∷◌, Option, None, Some}
 use Rattle.lensmodel.specs.Call.Answer.{Files, Named, Answer, answer}
 use Rattle.lensmodel.specs.Call.Inputs.{on_lens}

@@ -1,4 +1,5 @@
 -- The command seidel: its answer, and what the printed sums mean. Its words are those of a lens, a catalogue and a job.
+-- Cited by the outcome of a call.
 use Rattle.std.specs.Prelude.{◌≡◌, ℕ, suc, List, [], ◌∷◌, ◌++◌, All, length}
 use Rattle.fixdec.specs.Decimal.{Decimal}
 use Rattle.lensmodel.specs.Call.Answer.{Files, Answer, answer}

@@ -1,5 +1,5 @@
 -- The command trace: its answer, and what the printed rows and spots mean. Its words are those of a lens, a catalogue, a job,
--- and a box if there is one.
+-- and a box if there is one. Cited by the outcome of a call.
 use Rattle.std.specs.Prelude.{◌≡◌, ℕ, ◌+◌, Bool, true, false, List, [], ◌∷◌, ◌++◌, map, All, length}
 use Rattle.lensmodel.specs.Call.Answer.{Files, Answer, answer}
 use Rattle.lensmodel.specs.Call.Inputs.{Inputs, AreInputs, on_inputs}

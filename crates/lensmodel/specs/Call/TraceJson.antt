@@ -1,4 +1,5 @@
 -- The command trace-json: its answer, and what the printed rows mean. Its words are those of trace.
+-- Cited by the outcome of a call.
 use Rattle.std.specs.Prelude.{◌≡◌, ℕ, suc, List, [], ◌∷◌, ◌++◌, map}
 use Rattle.lensmodel.specs.Call.Answer.{Files, Answer, answer}
 use Rattle.lensmodel.specs.Call.Inputs.{Inputs, AreInputs, on_inputs}

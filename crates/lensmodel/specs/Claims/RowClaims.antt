@@ -1,4 +1,4 @@
--- What a row claims of every chain.
+-- What a row claims of every chain. Cited by the row of a ray and by the command trace.
 use Rattle.std.specs.Prelude.{ℕ, suc, ◌≡◌, slice_get, Some}
 use Rattle.fixdec.specs.Member.{IsMember}
 use Rattle.lensmodel.specs.Equations.Chain.{Chain}

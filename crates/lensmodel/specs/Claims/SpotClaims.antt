@@ -1,4 +1,5 @@
 -- What the statistics of a spot claim: whichever whole chain is chosen for each row that passes.
+-- Cited by the statistics of a grid and by the command trace.
 use Rattle.std.specs.Prelude.{◌≡◌, ◌-◌, pos, List, [], ◌∷◌, length, map, filter, All, IsTrue}
 use Rattle.std.specs.List.{AllZip}
 use Rattle.fixdec.specs.Ends.{Ends}

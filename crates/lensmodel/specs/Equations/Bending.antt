@@ -1,4 +1,4 @@
--- The normal of a surface, refraction and reflection.
+-- The normal of a surface, refraction and reflection. Cited by chains and by the claims of the bending.
 use Rattle.std.specs.Prelude.{ℕ, suc, pos, Bool, true, false}
 use Rattle.fixdec.specs.Frac.{Frac, ◌≈◌, ◌≤Q◌, ◌+Q◌, ◌-Q◌, ◌*Q◌, whole}
 use Rattle.lensmodel.specs.Equations.Chain.{Chain, index_behind}

@@ -1,4 +1,4 @@
--- A chain: what one exact ray is, surface by surface.
+-- A chain: what one exact ray is, surface by surface. Cited by the equations.
 use Rattle.std.specs.Prelude.{ℕ}
 use Rattle.fixdec.specs.Frac.{Frac, ◌+Q◌}
 use Rattle.fixdec.specs.Member.{Symbols}

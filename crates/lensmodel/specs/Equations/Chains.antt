@@ -1,4 +1,4 @@
--- Chains to a surface, chains that leave it, whole chains, and clearing a rim.
+-- Chains to a surface, chains that leave it, whole chains, and clearing a rim. Cited by what a row claims.
 use Rattle.std.specs.Prelude.{ℕ, zero, suc, ◌<◌, ◌≤◌, Bool, true, false, Option, Some, None}
 use Rattle.fixdec.specs.Decimal.{Decimal, value}
 use Rattle.fixdec.specs.Frac.{Frac, ◌≤Q◌, ◌*Q◌}

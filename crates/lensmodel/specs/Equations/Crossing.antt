@@ -1,4 +1,4 @@
--- From one surface to the next, and the crossing with it.
+-- From one surface to the next, and the crossing with it. Cited by chains and by the claims of the crossing.
 use Rattle.std.specs.Prelude.{ℕ, suc, pos, Option, Some, None}
 use Rattle.fixdec.specs.Decimal.{Decimal}
 use Rattle.fixdec.specs.Frac.{Frac, ◌≈◌, ◌≤Q◌, ◌<Q◌, ◌+Q◌, ◌-Q◌, ◌*Q◌, whole}

@@ -1,4 +1,5 @@
 -- The refractive index of a glass at a wavelength, by its catalogue's dispersion formula.
+-- Cited by chains, by the index and by the command index.
 use Rattle.std.specs.Prelude.{◌≡◌, ◌⊎◌, pos}
 use Rattle.fixdec.specs.Decimal.{Decimal, value}
 use Rattle.fixdec.specs.Frac.{Frac, ◌≈◌, ◌<Q◌, ◌+Q◌, ◌*Q◌, ◌-Q◌, whole}

@@ -1,4 +1,4 @@
--- The residual: how far the two sides of an equation may lie apart.
+-- The residual: how far the two sides of an equation may lie apart. Cited by each equation.
 use Rattle.std.specs.Prelude.{ℕ}
 use Rattle.fixdec.specs.Decimal.{tenth_power}
 use Rattle.fixdec.specs.Frac.{Frac, ◌≤Q◌, ◌+Q◌}

@@ -1,4 +1,4 @@
--- Where a ray starts: in the vertex plane of surface 1, by its slopes.
+-- Where a ray starts: in the vertex plane of surface 1, by its slopes. Cited by chains and by the claims of the start.
 use Rattle.std.specs.Prelude.{pos, ◌-◌}
 use Rattle.fixdec.specs.Decimal.{value}
 use Rattle.fixdec.specs.Frac.{Frac, ◌≈◌, ◌<Q◌, ◌+Q◌, ◌-Q◌, ◌*Q◌, whole}

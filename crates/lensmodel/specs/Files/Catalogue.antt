@@ -1,4 +1,5 @@
 -- A glass catalogue: which lines offend, and the book of glasses that the lines make. A line is its list of words.
+-- Cited by the reader of catalogues and by the outcome of a call.
 use Rattle.std.specs.Prelude.{ℕ, suc, ℤ, Bool, true, ◌||◌, nat_eq, nat_le, nat_lt, List, [], ◌∷◌, length, take, drop, codes, Option, Some, None, Result, if◌then◌else◌}
 use Rattle.fixdec.specs.Decimal.{Decimal}
 use Rattle.fixdec.specs.Reading.{decimal_of}

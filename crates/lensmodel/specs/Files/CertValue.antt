@@ -1,4 +1,4 @@
--- A certificate as contracts see it: its scale, and its parts and places as lists.
+-- A certificate as contracts see it: its scale, and its parts and places as lists. Cited by the certificate's type.
 use Rattle.std.specs.Prelude.{ℕ, List}
 use Rattle.lensmodel.specs.declared.certificate.CertPlace.{CertPlace}
 use Rattle.lensmodel.specs.declared.certificate.RayCert.{RayCert}

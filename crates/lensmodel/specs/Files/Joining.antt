@@ -1,4 +1,5 @@
 -- A lens, a book of glasses, a job and a box put together as a setup, or the first cross check that refuses them.
+-- Cited by the cross checks and by the outcome of a call.
 use Rattle.std.specs.Option.{option_map, unwrap_or}
 use Rattle.std.specs.Prelude.{ℕ, zero, suc, ◌-◌, Bool, true, false, ◌&&◌, ◌||◌, not, List, [], ◌∷◌, ◌++◌, length, take, map, slice_get, Option, Some, None, is_none, Result, if◌then◌else◌}
 use Rattle.fixdec.specs.Decimal.{Decimal}

@@ -1,4 +1,5 @@
 -- The glass of a name in a book, and its index at a wavelength, as the command index judges and prints it.
+-- Cited by the cross checks and by the command index.
 use Rattle.std.specs.Prelude.{ℕ, pos, Bool, false, ◌&&◌, int_le, not, List, Option, Some, None, Result, Ok, Err, if◌then◌else◌}
 use Rattle.fixdec.specs.Decimal.{Decimal}
 use Rattle.fixdec.specs.Ends.{Ends}

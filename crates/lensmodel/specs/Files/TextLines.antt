@@ -1,4 +1,5 @@
 -- Text: the 16-bit units that bytes stand for, their lines, and the words of a line.
+-- Cited by the decoder of files and by the definition of each file.
 use Rattle.std.specs.Prelude.{ℕ, ◌+◌, ◌*◌, ◌%◌, Bool, true, false, ◌&&◌, ◌||◌, nat_eq, nat_le, nat_lt, not, List, [], ◌∷◌, length, drop, Option, Some, None, Result, Err, if◌then◌else◌}
 use Rattle.lensmodel.specs.Files.Causes.{first_fault, each_from, ok_unless}
 use Rattle.lensmodel.specs.declared.fault.TextFault.{TextFault}

@@ -1,4 +1,5 @@
 -- First-order values: what they are of two paraxial rays, and what their intervals claim.
+-- Cited by the first-order values and by the command first.
 use Rattle.std.specs.Prelude.{ℕ, suc, ◌≡◌, ◌<◌, min, pos, negsuc, slice_get, Some}
 use Rattle.fixdec.specs.Decimal.{Decimal}
 use Rattle.fixdec.specs.Ends.{Ends}

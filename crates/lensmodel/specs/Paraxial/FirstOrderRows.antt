@@ -1,4 +1,5 @@
 -- The rows of the first-order values, and the rays that they are made from.
+-- Cited by the first-order values and by the command first.
 use Rattle.std.specs.Prelude.{ℕ, zero, suc, ◌+◌, ◌*◌, ◌-◌, ℤ, pos, List, [], ◌∷◌, ◌++◌, slice_index_or}
 use Rattle.fixdec.specs.Decimal.{Decimal}
 use Rattle.fixdec.specs.Ends.{Ends}

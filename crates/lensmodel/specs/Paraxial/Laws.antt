@@ -1,4 +1,4 @@
--- Fractions that meet the paraxial equations are members of what the rows give, in every lawful arithmetic.
+-- Fractions that meet the paraxial equations are members of what the rows give, in every lawful arithmetic. Cited by proofs.
 use Rattle.std.proofs.Common.{ℕ, [], ◌∷◌}
 use Rattle.std.specs.Prelude.{ℤ, pos, negsuc, Option, Some, None}
 use Rattle.fixdec.specs.Decimal.{Decimal, value}

@@ -1,5 +1,5 @@
 -- Rows that are worked out though others are lost. Each row has a number in the order of all rows; a value that needs lost
--- rows is lost by the cause of the first of them.
+-- rows is lost by the cause of the first of them. Cited by the rows of first order and of the sums.
 use Rattle.std.specs.Prelude.{ℕ, nat_le, Bool, true, false, ◌||◌, List, [], ◌∷◌, if◌then◌else◌}
 use Rattle.fixdec.specs.Ends.{Ends}
 use Rattle.fixdec.specs.declared.step.Step.{Step}

@@ -1,4 +1,5 @@
 -- The five Seidel sums: what they are of a marginal and a chief paraxial ray, and what their intervals claim.
+-- Cited by the sums and by the command seidel.
 use Rattle.std.specs.Prelude.{ℕ, zero, suc, ◌≡◌, ◌<◌, pos, slice_get, Some}
 use Rattle.fixdec.specs.Decimal.{Decimal, value}
 use Rattle.fixdec.specs.Frac.{Frac, ◌≈◌, ◌+Q◌, ◌-Q◌, ◌*Q◌, neg_Q, whole}

@@ -1,4 +1,5 @@
 -- Fractions that meet the equations of the Seidel sums are members of what the rows give, in every lawful arithmetic.
+-- Cited by proofs.
 use Rattle.std.proofs.Common.{ℕ, [], ◌∷◌}
 use Rattle.std.specs.Prelude.{pos}
 use Rattle.fixdec.specs.Decimal.{value}

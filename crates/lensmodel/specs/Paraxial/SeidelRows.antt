@@ -1,4 +1,4 @@
--- The rows of the five Seidel sums, surface by surface and of the whole lens.
+-- The rows of the five Seidel sums, surface by surface and of the whole lens. Cited by the sums and by the command seidel.
 use Rattle.std.specs.Prelude.{ℕ, suc, ◌+◌, ◌*◌, ℤ, pos, List, [], ◌∷◌, ◌++◌, map, flat_map}
 use Rattle.fixdec.specs.Decimal.{Decimal}
 use Rattle.fixdec.specs.IntervalOperations.{operations}

@@ -1,4 +1,4 @@
--- The five Seidel sums of a surface are members of what their rows give, in every lawful arithmetic.
+-- The five Seidel sums of a surface are members of what their rows give, in every lawful arithmetic. Cited by proofs.
 use Rattle.std.proofs.Common.{ℕ, [], ◌∷◌}
 use Rattle.std.specs.Prelude.{ℤ, pos}
 use Rattle.fixdec.specs.Frac.{Frac, ◌+Q◌, ◌*Q◌, ◌-Q◌, neg_Q, whole}

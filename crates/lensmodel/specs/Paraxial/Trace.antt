@@ -1,4 +1,5 @@
 -- Paraxial rays: the trace equations near the axis, without a box. The indices carry the sign of travel.
+-- Cited by the first-order values and by the sums.
 use Rattle.std.specs.Prelude.{ℕ, suc, ◌-◌, ◌<◌, pos}
 use Rattle.fixdec.specs.Decimal.{Decimal, value}
 use Rattle.fixdec.specs.Frac.{Frac, ◌≈◌, ◌+Q◌, ◌-Q◌, ◌*Q◌, whole}

@@ -1,4 +1,4 @@
--- The rows of a paraxial ray at a surface. The indices carry the sign of travel.
+-- The rows of a paraxial ray at a surface. The indices carry the sign of travel. Cited by the paraxial trace of a surface.
 use Rattle.std.specs.Prelude.{ℕ, suc, ℤ, pos, negsuc}
 use Rattle.fixdec.specs.Operations.{Operations}
 use Rattle.fixdec.specs.Steps.{◌>>=◌}

@@ -1,6 +1,6 @@
 -- Where a line may meet an even asphere: the window of z, and the cells of it that are kept. They run in plain intervals.
 -- Cited by the crossing of an even asphere.
-use Rattle.std.specs.Prelude.{ℕ, zero, suc, ℤ, pos, neg_ℤ, ◌+ℤ◌, ◌-ℤ◌, ◌*ℤ◌, Bool, true, false, ◌&&◌, int_le, List, [], ◌∷◌}
+use Rattle.std.specs.Prelude.{ℕ, zero, suc, ℤ, pos, neg_ℤ, ◌+ℤ◌, ◌-ℤ◌, ◌*ℤ◌, Bool, true, false, ◌&&◌, int_le, List, [], ◌∷◌, map, None}
 use Rattle.std.specs.Int.{int_min, int_max}
 use Rattle.fixdec.specs.Ends.{Ends}
 use Rattle.fixdec.specs.Interval.{iv_size}
@@ -14,6 +14,29 @@ use Rattle.lensmodel.specs.Rows.Crossing.{Line, along_row}
 use Rattle.lensmodel.specs.Rows.Preparation.{Prepared}
 use Rattle.lensmodel.specs.Rows.Sag.{sag_rows}
 use Rattle.lensmodel.specs.Rows.Spans.{up_to}
+
+-- ---- hulls
+module _ {A : Type 0} (o : Operations A) where
+  -- the hulls that the cells use
+  abbrev pub hulls : Prepared A → Prepared Ends
+  hulls face = record {
+    kind = face.kind;
+    d = o.hull face.d;
+    c = o.hull face.c;
+    kappa = o.hull face.kappa;
+    ck = o.hull face.ck;
+    n = o.hull face.n;
+    n2 = None;
+    rim2 = None;
+    zone2 = None;
+    norm = face.norm;
+    b = map o.hull face.b;
+    sign = face.sign;
+    mirror = face.mirror;
+  }
+
+  abbrev pub line_hulls : Line A → Line Ends
+  line_hulls line = record { x0 = o.hull line.x0; y0 = o.hull line.y0; p = o.hull line.p; q = o.hull line.q }
 
 -- ---- cutting a window
 -- the point i of 64 between the ends of a window

@@ -1,4 +1,4 @@
--- Written numbers as values of an arithmetic, and the units of the residual.
+-- Written numbers as values of an arithmetic, and the units of the residual. Cited by all rows.
 use Rattle.std.specs.Prelude.{ℕ, ℤ, pos, ◌-◌, ◌^◌, nat_le, if◌then◌else◌}
 use Rattle.fixdec.specs.Decimal.{Decimal}
 use Rattle.fixdec.specs.Operations.{Operations}

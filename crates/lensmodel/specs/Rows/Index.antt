@@ -1,4 +1,5 @@
 -- The rows of the index, in the order in which they are evaluated, over the operations of any arithmetic.
+-- Cited by the index, by the preparation and by the cross checks.
 use Rattle.std.specs.Prelude.{ℕ, ℤ, pos, nat_eq, if◌then◌else◌}
 use Rattle.fixdec.specs.Decimal.{Decimal}
 use Rattle.fixdec.specs.Ends.{Ends}

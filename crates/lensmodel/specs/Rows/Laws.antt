@@ -1,4 +1,5 @@
 -- Laws of single rows: written numbers, exact equations and equations within the residual, in every lawful arithmetic.
+-- Cited by proofs.
 use Rattle.std.proofs.Common.{ℕ, [], ◌∷◌}
 use Rattle.std.specs.Prelude.{ℤ, pos}
 use Rattle.fixdec.specs.Decimal.{Decimal, value}

@@ -1,4 +1,5 @@
 -- The outcome of a ray at one scale, and its row: the first surface that ends the walk gives the word.
+-- Cited by the walk at one scale.
 use Rattle.std.specs.Prelude.{ℕ, zero, suc, ℤ, ◌-ℤ◌, Bool, true, false, ◌||◌, nat_eq, int_lt, not, List, [], ◌∷◌, Option, Some, None, if◌then◌else◌}
 use Rattle.fixdec.specs.Decimal.{Decimal}
 use Rattle.fixdec.specs.Ends.{Ends}

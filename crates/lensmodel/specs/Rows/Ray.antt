@@ -1,4 +1,5 @@
 -- The row of a ray: the four scales in intervals without a box, and in linear forms with one, even an empty one.
+-- Cited by the row of a ray and by the commands that trace.
 use Rattle.std.specs.Prelude.{ℕ, Option, Some, None}
 use Rattle.fixdec.specs.Form.{linear_operations}
 use Rattle.fixdec.specs.IntervalOperations.{operations}

@@ -1,12 +1,13 @@
 -- Where a line meets an even asphere: four slope rounds over what the cells leave of the window. Cited by the crossing of an
 -- even asphere, and by the claim that two crossings are close.
-use Rattle.std.specs.Prelude.{ℕ, ℤ, pos, int_lt, List, [], ◌∷◌, map, None, if◌then◌else◌}
+use Rattle.std.specs.Prelude.{ℕ, ℤ, pos, int_lt, List, [], ◌∷◌, if◌then◌else◌}
 use Rattle.fixdec.specs.Ends.{Ends}
 use Rattle.fixdec.specs.Operations.{Operations}
 use Rattle.fixdec.specs.Steps.{◌>>=◌}
 use Rattle.fixdec.specs.declared.step.Step.{Step}
 use Rattle.fixdec.specs.declared.step.Step.TheVariants.{Val, Empty, Lost}
 use Rattle.fixdec.specs.declared.step.Why.TheVariants.{Root}
+pub use Rattle.lensmodel.specs.Rows.Cells.{hulls, line_hulls}
 use Rattle.lensmodel.specs.Rows.Cells.{window_row, pruned}
 use Rattle.lensmodel.specs.Rows.Constants.{whole_row}
 use Rattle.lensmodel.specs.Rows.Crossing.{Line, along_row, rho_row}
@@ -46,27 +47,6 @@ pub record Round (A : Type 0) : Type 0 where
   pub g : A
 
 module _ {A : Type 0} (o : Operations A) where
-  -- the hulls that the cells use
-  abbrev pub hulls : Prepared A → Prepared Ends
-  hulls face = record {
-    kind = face.kind;
-    d = o.hull face.d;
-    c = o.hull face.c;
-    kappa = o.hull face.kappa;
-    ck = o.hull face.ck;
-    n = o.hull face.n;
-    n2 = None;
-    rim2 = None;
-    zone2 = None;
-    norm = face.norm;
-    b = map o.hull face.b;
-    sign = face.sign;
-    mirror = face.mirror;
-  }
-
-  abbrev pub line_hulls : Line A → Line Ends
-  line_hulls line = record { x0 = o.hull line.x0; y0 = o.hull line.y0; p = o.hull line.p; q = o.hull line.q }
-
   -- the square of the zone
   abbrev pub zone2_of : Prepared A → Ends
   zone2_of face = hull_or_zero o.hull face.zone2

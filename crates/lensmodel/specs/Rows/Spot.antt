@@ -1,4 +1,5 @@
 -- The statistics of a spot: over the rows that pass, the centroid at the image and the mean square distance from it.
+-- Cited by the statistics of a grid and by the command trace.
 use Rattle.std.specs.Prelude.{ℕ, ◌-◌, ◌^◌, ℤ, pos, ◌+ℤ◌, ◌*ℤ◌, Bool, true, false, nat_le, List, [], ◌∷◌, length, map, filter, if◌then◌else◌}
 use Rattle.fixdec.specs.Ends.{Ends}
 use Rattle.fixdec.specs.Interval.{ends, iv_plus, iv_minus, iv_square, iv_clip}

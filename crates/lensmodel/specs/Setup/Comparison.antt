@@ -1,4 +1,4 @@
--- Fractions and decimals compared, as answers that compute.
+-- Fractions and decimals compared, as answers that compute. Cited by the ranges, the cross checks and the whole faults.
 use Rattle.std.specs.Prelude.{◌*ℤ◌, Bool, int_lt}
 use Rattle.fixdec.specs.Decimal.{Decimal, value}
 use Rattle.fixdec.specs.Frac.{Frac, den}

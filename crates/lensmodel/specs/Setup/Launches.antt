@@ -1,4 +1,4 @@
--- The rays that a job asks for, one by one in their order.
+-- The rays that a job asks for, one by one in their order. Cited by the launches of a job and by the commands that trace.
 use Rattle.std.specs.Prelude.{ℕ, zero, suc, ℤ, pos, neg_ℤ, ◌+ℤ◌, ◌+◌, ◌*◌, List, [], ◌∷◌, ◌++◌, map, flat_map, sum_by}
 use Rattle.fixdec.specs.Decimal.{Decimal}
 use Rattle.lensmodel.specs.Setup.Ratio.{Ratio}

@@ -1,4 +1,4 @@
--- The media between surfaces.
+-- The media between surfaces. Cited by the equations, the rows and the cross checks.
 use Rattle.std.specs.Prelude.{ℕ, suc, ◌-◌, Bool, true, false, ◌&&◌, nat_eq, nat_le, List, [], ◌∷◌, slice_index_or, not, if◌then◌else◌, map}
 use lib.Pointwise.{pointwise}
 use Rattle.lensmodel.specs.Setup.Values.{owner, reflects, stands_on, tolerances}

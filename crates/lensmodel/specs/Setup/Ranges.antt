@@ -1,4 +1,4 @@
--- The ranges of a job's numbers and of a box's tolerances.
+-- The ranges of a job's numbers and of a box's tolerances. Cited by the readers of jobs and boxes and by well-formed setups.
 use Rattle.std.specs.Prelude.{ℕ, pos, Bool, true, ◌&&◌, nat_le, nat_lt, int_le, int_lt, not, Option, Some, None}
 use Rattle.fixdec.specs.Decimal.{Decimal}
 use Rattle.lensmodel.specs.Setup.Comparison.{is_below_decimal}

@@ -1,4 +1,5 @@
 -- What a setup stands for under one choice of symbols: curvatures, thicknesses, coefficients, and the sign of travel.
+-- Cited by the equations and by the preparation.
 use Rattle.std.specs.Prelude.{ℕ, zero, suc, ℤ, pos, ◌-◌, neg_ℤ, Bool, true, false, ◌&&◌, nat_eq, nat_lt, List, [], ◌∷◌, length, slice_index_or, Option, Some, None, if◌then◌else◌}
 use Rattle.fixdec.specs.Decimal.{Decimal, value}
 use Rattle.fixdec.specs.Frac.{Frac, ◌+Q◌, ◌*Q◌, whole}

@@ -1,4 +1,4 @@
--- Well-formed setups: what the trace of a ray takes for granted.
+-- Well-formed setups: what the trace of a ray takes for granted. Cited by every call that takes a setup.
 use Rattle.std.specs.Prelude.{ℕ, ◌≡◌, ◌<◌, ◌≤◌, neg_ℤ, pos, ◌≤ℤ◌, not, List, length, slice_index_or, All, AllPairs, IsTrue, Option, Some, None}
 use Rattle.fixdec.specs.Decimal.{Decimal}
 use Rattle.lensmodel.specs.Equations.Dispersion.{IsKnown}

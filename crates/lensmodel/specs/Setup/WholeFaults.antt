@@ -1,4 +1,4 @@
--- What is wrong with a prescription as a whole.
+-- What is wrong with a prescription as a whole. Cited by the reader of lens files and by well-formed setups.
 use Rattle.std.specs.Prelude.{ℕ, suc, ◌-◌, pos, Bool, ◌&&◌, nat_eq, nat_lt, not, List, [], ◌∷◌, ◌++◌, length, drop, map, slice_index_or, Option, is_none}
 use Rattle.fixdec.specs.Decimal.{Decimal, value}
 use Rattle.fixdec.specs.Frac.{size, whole}

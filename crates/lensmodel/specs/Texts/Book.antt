@@ -1,4 +1,4 @@
--- The lines of a glass catalogue.
+-- The lines of a glass catalogue. Cited by the command glass.
 use Rattle.std.specs.Prelude.{ℕ, List, [], ◌∷◌, ◌++◌, codes, length}
 use Rattle.std.specs.Fmt.{decimal}
 use Rattle.lensmodel.specs.Texts.Pieces.{newline, name_text, bound_text, spaced}

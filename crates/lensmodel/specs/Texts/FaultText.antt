@@ -1,4 +1,4 @@
--- The line of a call that ends without a report: the status, the file, and the cause with its place.
+-- The line of a call that ends without a report: the status, the file, and the cause with its place. Cited by each command.
 use Rattle.std.specs.Prelude.{ℕ, List, [], ◌++◌, codes}
 use Rattle.std.specs.Fmt.{decimal}
 use Rattle.lensmodel.specs.Texts.Pieces.{newline}

@@ -1,4 +1,4 @@
--- The line of an index.
+-- The line of an index. Cited by the command index.
 use Rattle.std.specs.Prelude.{ℕ, List, ◌++◌, codes}
 use Rattle.fixdec.specs.Decimal.{Decimal}
 use Rattle.fixdec.specs.DecimalText.{dec_text}
