@@ -15,7 +15,8 @@ fn is_quotient(n: u128, d: u64, q: u64) -> bool
     product <= n && n - product < d as u128
 }
 
-#[inline(never)]
+// the quotient `n / d`, rounded down, by a tested guess
+#[inline(always)]
 fn far_quotient(n: u128, d: u64) -> u128
     requires { 0 < d }
     ensures { result ≡ n / d }
