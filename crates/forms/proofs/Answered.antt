@@ -4,30 +4,30 @@ use Rattle.std.specs.Prelude.{ℤ, pos, ◌+ℤ◌, ◌*ℤ◌, ◌≤ℤ◌, �
 use Rattle.std.specs.Int.{div_ceil}
 use Rattle.std.proofs.lemmas.Int.{ints}
 use Rattle.std.proofs.lemmas.Bool.Decides.{nat_tests}
-use Rattle.fixdec.specs.Form.{LinearForm, kept, moved, divided, multiplied, combined, sizes, dev, left, mixed, beside, quotient_about, lin_times, lin_shift}
+use Rattle.fixdec.specs.Form.{LinearForm, within_cap, moved_form, divided_form, multiplied_form, coefficientwise, sizes, dev, quotient_rest, cross_terms, error_terms, quotient_about, lin_times, lin_shift}
 use Rattle.fixdec.specs.Interval.{unit, fits_cap}
 use Rattle.fixdec.specs.declared.step.Step.{Step}
 use Rattle.fixdec.specs.declared.step.Step.TheVariants.{Lost}
 use Rattle.fixdec.specs.declared.step.Why.TheVariants.{Range}
 
 -- a form that is moved by 0 stays
-pub moved_zero : (f : LinearForm) → moved (pos 0) f ≡ f
+pub moved_zero : (f : LinearForm) → moved_form (pos 0) f ≡ f
 moved_zero f = let e : pos 0 +ℤ f.centre ≡ f.centre = omega (arith, ints) in (λ i. record f { centre = e i })
 
 pub times_at : {r : Step LinearForm} (scale : ℕ) (a b : LinearForm)
-    → r ≡ kept (moved (pos 0) (divided (unit scale) (a.centre *ℤ b.centre) (mixed a b) (div_ceil (beside a b) (10 ^ scale)))) → r ≡ lin_times scale a b
+    → r ≡ within_cap (moved_form (pos 0) (divided_form (unit scale) (a.centre *ℤ b.centre) (cross_terms a b) (div_ceil (error_terms a b) (10 ^ scale)))) → r ≡ lin_times scale a b
 unfolding lin_times
-times_at scale a b e = e ∙ ap kept (moved_zero (divided (unit scale) (a.centre *ℤ b.centre) (mixed a b) (div_ceil (beside a b) (10 ^ scale))))
+times_at scale a b e = e ∙ ap within_cap (moved_zero (divided_form (unit scale) (a.centre *ℤ b.centre) (cross_terms a b) (div_ceil (error_terms a b) (10 ^ scale))))
 
 module _ (a : LinearForm) (k : ℤ) where
   pub shift_down_at : {r : Step LinearForm} → pos 0 <ℤ k
-      → r ≡ kept (moved (pos 0) (divided (pos (10 ^ unsigned_abs k)) a.centre a.coefficients (div_ceil a.radius (10 ^ unsigned_abs k)))) → r ≡ lin_shift a k
+      → r ≡ within_cap (moved_form (pos 0) (divided_form (pos (10 ^ unsigned_abs k)) a.centre a.coefficients (div_ceil a.radius (10 ^ unsigned_abs k)))) → r ≡ lin_shift a k
   unfolding lin_shift
   shift_down_at h e =
       let t : int_lt (pos 0) k ≡ true = grind (arith, ints) in
-      rw t (e ∙ ap kept (moved_zero (divided (pos (10 ^ unsigned_abs k)) a.centre a.coefficients (div_ceil a.radius (10 ^ unsigned_abs k)))))
+      rw t (e ∙ ap within_cap (moved_zero (divided_form (pos (10 ^ unsigned_abs k)) a.centre a.coefficients (div_ceil a.radius (10 ^ unsigned_abs k)))))
 
-  pub shift_up_at : {r : Step LinearForm} → k ≤ℤ pos 0 → r ≡ kept (multiplied (10 ^ unsigned_abs k) a) → r ≡ lin_shift a k
+  pub shift_up_at : {r : Step LinearForm} → k ≤ℤ pos 0 → r ≡ within_cap (multiplied_form (10 ^ unsigned_abs k) a) → r ≡ lin_shift a k
   unfolding lin_shift
   shift_up_at h e = let t : int_lt (pos 0) k ≡ false = grind (arith, ints) in rw t e
 
@@ -35,10 +35,10 @@ module _ (a : LinearForm) (k : ℤ) where
 module _ (scale : ℕ) (q : ℤ) (a b : LinearForm) where
   -- what the first quotient leaves of the centre, the coefficients and the radius
   abbrev pub left_centre : ℤ
-  left_centre = left scale q a.centre b.centre
+  left_centre = quotient_rest scale q a.centre b.centre
 
   abbrev pub left_coefficients : List ℤ
-  left_coefficients = combined (left scale q) a.coefficients b.coefficients
+  left_coefficients = coefficientwise (quotient_rest scale q) a.coefficients b.coefficients
 
   abbrev pub left_radius : ℕ
   left_radius = a.radius * 10 ^ scale + unsigned_abs q * b.radius
@@ -51,6 +51,6 @@ module _ (scale : ℕ) (q : ℤ) (a b : LinearForm) where
   about_lost h = let t : fits_cap (pos far) ≡ false = grind (arith, nat_tests) in rw t refl
 
   pub about_kept : {r : Step LinearForm} → far ≤ 1_000_000_000_000_000_000
-      → r ≡ kept (moved q (divided b.centre left_centre left_coefficients (div_ceil left_radius (unsigned_abs b.centre) + div_ceil (far * dev b) (unsigned_abs b.centre))))
+      → r ≡ within_cap (moved_form q (divided_form b.centre left_centre left_coefficients (div_ceil left_radius (unsigned_abs b.centre) + div_ceil (far * dev b) (unsigned_abs b.centre))))
       → r ≡ quotient_about scale q a b
   about_kept h e = let t : fits_cap (pos far) ≡ true = grind (arith, nat_tests) in rw t e

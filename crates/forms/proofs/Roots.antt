@@ -5,7 +5,7 @@ use native.Mathlib.Nat.{mul-le-mul}
 use Rattle.std.specs.Prelude.{pos, ◌≤ℤ◌, ◌<ℤ◌, int_le, int_lt}
 use Rattle.std.proofs.lemmas.Int.{ints, by_lt_z}
 use Rattle.fixdec.specs.Ends.{Ends}
-use Rattle.fixdec.specs.Form.{LinearForm, kept, lin_hull, lin_of_span, lin_root, root_above}
+use Rattle.fixdec.specs.Form.{LinearForm, within_cap, lin_hull, lin_of_span, lin_root, root_above}
 use Rattle.fixdec.specs.Interval.{iv_root}
 use Rattle.fixdec.specs.Steps.{◌>>=◌}
 use Rattle.fixdec.specs.declared.step.Step.{Step}
@@ -30,7 +30,7 @@ root_none scale e t = rw t refl
 
 -- what the root of a form answers, by its hull
 module _ (scale : ℕ) (a : LinearForm) where
-  pub root_of_above : {r : Step LinearForm} → pos 0 <ℤ (lin_hull a).lo → r ≡ kept (root_above scale a) → r ≡ lin_root scale a
+  pub root_of_above : {r : Step LinearForm} → pos 0 <ℤ (lin_hull a).lo → r ≡ within_cap (root_above scale a) → r ≡ lin_root scale a
   unfolding lin_root
   root_of_above h e =
       let t : int_lt (lin_hull a).hi (pos 0) ≡ false = grind (arith, ints) in

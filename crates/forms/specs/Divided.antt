@@ -7,7 +7,7 @@ use Rattle.std.specs.Cmp.{signed_Decides}
 use Rattle.std.specs.Int.{div_ceil}
 use Rattle.std.specs.Ordering.{int_eq}
 use Rattle.std.specs.Prelude.{ℤ, pos, negsuc, ◌-ℤ◌, ◌*ℤ◌, ◌≤ℤ◌, ◌<ℤ◌, not, unsigned_abs}
-use Rattle.fixdec.specs.Form.{divided, has_remainder, quotients, remainders}
+use Rattle.fixdec.specs.Form.{divided_form, has_remainder, quotients, remainders}
 use Rattle.fixdec.specs.FormMember.{swing}
 use Rattle.fixdec.specs.Frac.{Frac, ◌≈◌, ◌≤Q◌, ◌<Q◌, ◌+Q◌, ◌*Q◌, ◌-Q◌, neg_Q, whole}
 use Rattle.fixdec.specs.Algebra.FracLaws.{Q-IsRing, ≈_sym, ≈_trans}
@@ -123,7 +123,7 @@ module _ (d : ℤ) (nonzero : d ≡ pos 0 → ⊥) where
 
   -- where x d is within r d of n and a list's swing, x is within r and the quotients' remainders of the form of the quotients
   pub divided-law : (s : Symbols) (n : ℤ) (ns : List ℤ) (r : ℕ) (x : Frac) → HasSize (whole (pos r) *Q divisor_size) (x *Q whole d -Q (whole n +Q swing ns s 0))
-      → HasSize (whole (pos (divided d n ns r).radius)) (x -Q aim (divided d n ns r) s)
+      → HasSize (whole (pos (divided_form d n ns r).radius)) (x -Q aim (divided_form d n ns r) s)
   divided-law s n ns r x h =
       let R = whole (pos (remainder d n)) in
       let M = whole (pos (remainders d ns)) in

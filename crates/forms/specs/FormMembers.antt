@@ -1,7 +1,7 @@
 -- Members of linear forms as fractions within a radius, and how far a member lies from the centre.
 use Rattle.std.proofs.Common.{ℕ, ◌+◌, true, false, [], ◌∷◌}
 use Rattle.std.specs.Prelude.{ℤ, pos, ◌+ℤ◌, if◌then◌else◌, unsigned_abs}
-use Rattle.fixdec.specs.Form.{LinearForm, dev, kept, lin_hull, moved, sizes}
+use Rattle.fixdec.specs.Form.{LinearForm, dev, within_cap, lin_hull, moved_form, sizes}
 use Rattle.fixdec.specs.FormMember.{IsFormMember, swing}
 use Rattle.fixdec.specs.Frac.{Frac, ◌≈◌, ◌+Q◌, ◌*Q◌, ◌-Q◌, whole}
 use Rattle.fixdec.specs.Algebra.FracLaws.{≈_sym}
@@ -20,13 +20,13 @@ abbrev pub aim : LinearForm → Symbols → Frac
 aim f s = whole f.centre +Q swing f.coefficients s 0
 
 -- the aim of a form that is moved
-pub aim-moved : (q : ℤ) (f : LinearForm) (s : Symbols) → aim (moved q f) s ≈ whole q +Q aim f s
+pub aim-moved : (q : ℤ) (f : LinearForm) (s : Symbols) → aim (moved_form q f) s ≈ whole q +Q aim f s
 aim-moved q f s =
     linear (whole q ∷ whole f.centre ∷ whole (q +ℤ f.centre) ∷ swing f.coefficients s 0 ∷ []) _ _ (search reads depth 12)
     (name (whole_add q f.centre) (search reads depth 12) no_fact) tt
 
 -- what holds of a form holds on the value of `kept`
-pub on_kept : (f : LinearForm) (P : LinearForm → Type 0) → P f → OnVal (kept f) P
+pub on_kept : (f : LinearForm) (P : LinearForm → Type 0) → P f → OnVal (within_cap f) P
 on_kept f P h = elim (fits_cap (pos (unsigned_abs f.centre + dev f))) as (λ b. OnVal (if b then Val f else Lost Range) P) [ true ↦ h | false ↦ tt ]
 
 module _ (scale : ℕ) (f : LinearForm) (s : Symbols) where

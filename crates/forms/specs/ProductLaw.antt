@@ -3,7 +3,7 @@ use Rattle.std.proofs.Common.{ℕ, ◌+◌, ◌*◌, ◌^◌, ◌∷◌, [], ◌
 use Rattle.std.proofs.lemmas.Int.{ints}
 use Rattle.std.specs.Int.{div_ceil}
 use Rattle.std.specs.Prelude.{ℤ, pos, ◌+ℤ◌, ◌*ℤ◌, unsigned_abs}
-use Rattle.fixdec.specs.Form.{LinearForm, beside, dev, divided, lin_times, mixed}
+use Rattle.fixdec.specs.Form.{LinearForm, error_terms, dev, divided_form, lin_times, cross_terms}
 use Rattle.fixdec.specs.FormMember.{IsFormMember, swing}
 use Rattle.fixdec.specs.Frac.{Frac, ◌≈◌, ◌+Q◌, ◌*Q◌, ◌-Q◌, whole}
 use Rattle.fixdec.specs.Interval.{unit}
@@ -34,7 +34,7 @@ module _ (scale : ℕ) (s : Symbols) where
     abbrev B : Frac
     B = swing b.coefficients s 0
 
-    mixed_is : swing (mixed a b) s 0 ≈ cb *Q A +Q ca *Q B
+    mixed_is : swing (cross_terms a b) s 0 ≈ cb *Q A +Q ca *Q B
     mixed_is = swing-combined s (λ k l. a.centre *ℤ l +ℤ b.centre *ℤ k) cb ca each a.coefficients b.coefficients 0
       where
         each : (k l : ℤ) → whole (a.centre *ℤ l +ℤ b.centre *ℤ k) ≈ cb *Q whole k +Q ca *Q whole l
@@ -44,7 +44,7 @@ module _ (scale : ℕ) (s : Symbols) where
             (name (whole_mul a.centre l) (search reads depth 12) (name (whole_mul b.centre k) (search reads depth 12) no_fact))) tt
 
     -- what the product has beside the centres' product and the mixed swing
-    beside-within : HasSize (whole (pos (beside a b))) (ca *Q (v *Q U -Q aim b s) +Q cb *Q (u *Q U -Q aim a s) +Q (u *Q U -Q ca) *Q (v *Q U -Q cb))
+    beside-within : HasSize (whole (pos (error_terms a b))) (ca *Q (v *Q U -Q aim b s) +Q cb *Q (u *Q U -Q aim a s) +Q (u *Q U -Q ca) *Q (v *Q U -Q cb))
     beside-within =
         let x = within_mul (within_whole a.centre) (member-within scale b s v q) in
         let y = within_mul (within_whole b.centre) (member-within scale a s u p) in
@@ -66,14 +66,14 @@ module _ (scale : ℕ) (s : Symbols) where
     unfolding lin_times
     lin_times-encloses =
         let n = a.centre *ℤ b.centre in
-        let r = div_ceil (beside a b) (10 ^ scale) in
-        let f = divided (unit scale) n (mixed a b) r in
+        let r = div_ceil (error_terms a b) (10 ^ scale) in
+        let f = divided_form (unit scale) n (cross_terms a b) r in
         let nonzero : unit scale ≡ pos 0 → ⊥ = (let h = unit_pos scale in λ e. absurd (omega (arith, ints))) in
-        let M = swing (mixed a b) s 0 in
+        let M = swing (cross_terms a b) s 0 in
         on_kept f (λ g. IsFormMember scale g s (u *Q v))
         (member-from scale f s (u *Q v)
-        (divided-law (unit scale) nonzero s n (mixed a b) r (u *Q v *Q U)
-        (within_div_ceil (unit scale) nonzero (beside a b) _
+        (divided-law (unit scale) nonzero s n (cross_terms a b) r (u *Q v *Q U)
+        (within_div_ceil (unit scale) nonzero (error_terms a b) _
         (within_same
         (linear (u ∷ v ∷ U ∷ ca ∷ cb ∷ A ∷ B ∷ M ∷ whole n ∷ []) _ (u *Q v *Q U *Q U -Q (whole n +Q M)) (search reads depth 20 fits 4000)
         (name mixed_is (search reads depth 20 fits 4000) (name (whole_mul a.centre b.centre) (search reads depth 20 fits 4000) no_fact)) tt)

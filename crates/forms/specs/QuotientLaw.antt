@@ -4,7 +4,7 @@ use Rattle.std.proofs.lemmas.Bool.{cond_both}
 use Rattle.std.proofs.lemmas.Int.{ints}
 use Rattle.std.specs.Int.{div_ceil}
 use Rattle.std.specs.Prelude.{ℤ, pos, ◌*ℤ◌, ◌<ℤ◌, unsigned_abs, if◌then◌else◌}
-use Rattle.fixdec.specs.Form.{LinearForm, dev, divided, kept, lin_hull, lin_over, moved, quotient_about}
+use Rattle.fixdec.specs.Form.{LinearForm, dev, divided_form, within_cap, lin_hull, lin_over, moved_form, quotient_about}
 use Rattle.fixdec.specs.FormMember.{IsFormMember}
 use Rattle.fixdec.specs.Frac.{Frac, ◌≈◌, ◌*Q◌}
 use Rattle.fixdec.specs.Interval.{fits_cap, holds_zero, unit}
@@ -29,7 +29,7 @@ abbrev form_about : ℕ → ℤ → LinearForm → LinearForm → LinearForm
 form_about scale g a b =
     let c = unsigned_abs b.centre in
     let radius = div_ceil (left_radius scale g a b) c + div_ceil (reach scale g a b * dev b) c in
-    moved g (divided b.centre (left_centre scale g a b) (left_coefficients scale g a b) radius)
+    moved_form g (divided_form b.centre (left_centre scale g a b) (left_coefficients scale g a b) radius)
 
 -- u and v are members of a and b under the same symbols, and q v is u
 module _ (scale : ℕ) (s : Symbols) (a b : LinearForm) (u v q : Frac) (p : IsFormMember scale a s u) (r : IsFormMember scale b s v) (same : q *Q v ≈ u) where
@@ -40,7 +40,7 @@ module _ (scale : ℕ) (s : Symbols) (a b : LinearForm) (u v q : Frac) (p : IsFo
   about : (g : ℤ) → dev b < unsigned_abs b.centre → Encloses (quotient_about scale g a b)
   about g h =
       let member = corrected_law scale s g q b.centre _ _ _ _ (omega arith) (quotient_left_law scale g s a b u v q p r same h) in
-      cond_both (fits_cap (pos (reach scale g a b))) (kept (form_about scale g a b)) (Lost Range) Encloses
+      cond_both (fits_cap (pos (reach scale g a b))) (within_cap (form_about scale g a b)) (Lost Range) Encloses
       (λ e. on_kept (form_about scale g a b) (λ f. IsFormMember scale f s q) member)
       (λ e. tt)
 

@@ -2,7 +2,7 @@
 use Rattle.std.proofs.Common.{ℕ, ◌+◌, ◌-◌, ◌*◌, ◌^◌, ◌<◌, List, [], ◌∷◌, arith}
 use Rattle.std.specs.Int.{div_ceil}
 use Rattle.std.specs.Prelude.{ℤ, pos, ◌*ℤ◌, unsigned_abs}
-use Rattle.fixdec.specs.Form.{LinearForm, combined, dev, left, sizes}
+use Rattle.fixdec.specs.Form.{LinearForm, coefficientwise, dev, quotient_rest, sizes}
 use Rattle.fixdec.specs.FormMember.{IsFormMember, swing}
 use Rattle.fixdec.specs.Frac.{Frac, ◌≈◌, ◌+Q◌, ◌*Q◌, ◌-Q◌, neg_Q, whole}
 use Rattle.fixdec.specs.Algebra.FracLaws.{≈_sym}
@@ -18,10 +18,10 @@ use Rattle.forms.specs.Swings.{swing-combined, swing-within}
 -- what a first quotient g leaves of a and b: of the centres, of the coefficients and of the radii
 module _ (scale : ℕ) (g : ℤ) (a b : LinearForm) where
   abbrev pub left_centre : ℤ
-  left_centre = left scale g a.centre b.centre
+  left_centre = quotient_rest scale g a.centre b.centre
 
   abbrev pub left_coefficients : List ℤ
-  left_coefficients = combined (left scale g) a.coefficients b.coefficients
+  left_coefficients = coefficientwise (quotient_rest scale g) a.coefficients b.coefficients
 
   abbrev pub left_radius : ℕ
   left_radius = a.radius * 10 ^ scale + unsigned_abs g * b.radius
@@ -31,11 +31,11 @@ module _ (scale : ℕ) (g : ℤ) (a b : LinearForm) where
   reach = div_ceil (unsigned_abs left_centre + sizes left_coefficients + left_radius) (unsigned_abs b.centre - dev b)
 
 -- what is left of two numbers, as a fraction
-left_is : (scale : ℕ) (g x y : ℤ) → whole (left scale g x y) ≈ units scale *Q whole x +Q neg_Q (whole g) *Q whole y
+left_is : (scale : ℕ) (g x y : ℤ) → whole (quotient_rest scale g x y) ≈ units scale *Q whole x +Q neg_Q (whole g) *Q whole y
 left_is scale g x y =
     let m = x *ℤ unit scale in
     let n = g *ℤ y in
-    linear (units scale ∷ whole x ∷ whole g ∷ whole y ∷ whole m ∷ whole n ∷ whole (left scale g x y) ∷ []) _ _ (search reads depth 12)
+    linear (units scale ∷ whole x ∷ whole g ∷ whole y ∷ whole m ∷ whole n ∷ whole (quotient_rest scale g x y) ∷ []) _ _ (search reads depth 12)
     (name (whole_sub m n) (search reads depth 12)
     (name (whole_mul x (unit scale)) (search reads depth 12) (name (whole_mul g y) (search reads depth 12) no_fact))) tt
 
@@ -73,7 +73,7 @@ module _ (scale : ℕ) (g : ℤ) (s : Symbols) (a b : LinearForm) (u v q : Frac)
       linear (q ∷ v ∷ u ∷ U ∷ whole g ∷ whole a.centre ∷ whole b.centre ∷ Sa ∷ Sb ∷ whole centre ∷ Sl ∷ []) _ _ (search reads depth 20 fits 20000)
       (name (≈_sym same) (search reads depth 20 fits 20000)
       (name (left_is scale g a.centre b.centre) (search reads depth 20 fits 20000)
-      (name (swing-combined s (left scale g) U (neg_Q (whole g)) (left_is scale g) a.coefficients b.coefficients 0) (search reads depth 20 fits 20000)
+      (name (swing-combined s (quotient_rest scale g) U (neg_Q (whole g)) (left_is scale g) a.coefficients b.coefficients 0) (search reads depth 20 fits 20000)
       no_fact))) tt
 
   error_within : HasSize (whole (pos radius)) error

@@ -4,7 +4,7 @@ use Rattle.std.proofs.lemmas.Bool.{cond_both}
 use Rattle.std.proofs.lemmas.Int.{ints}
 use Rattle.std.specs.Prelude.{ℤ, pos, ◌≤ℤ◌, ◌<ℤ◌, int_le, int_lt, if◌then◌else◌}
 use Rattle.fixdec.specs.Ends.{Ends}
-use Rattle.fixdec.specs.Form.{LinearForm, kept, lin_hull, lin_of_span, lin_root, root_above}
+use Rattle.fixdec.specs.Form.{LinearForm, within_cap, lin_hull, lin_of_span, lin_root, root_above}
 use Rattle.fixdec.specs.FormMember.{IsFormMember}
 use Rattle.fixdec.specs.Frac.{Frac, ◌≤Q◌, ◌*Q◌, whole}
 use Rattle.fixdec.specs.Interval.{iv_root}
@@ -46,7 +46,7 @@ module _ (scale : ℕ) (s : Symbols) (a : LinearForm) (u : Frac) (nn : whole (po
   unfolding lin_root
   lin_root-encloses =
       let low = iv_root scale hull >>= (λ e. Val (lin_of_span e)) in
-      let high = kept (root_above scale a) in
+      let high = within_cap (root_above scale a) in
       cond_both (int_lt hull.hi (pos 0)) Empty (if int_le hull.lo (pos 0) then low else high) Encloses
       (λ e. absurd (not_below_zero hull.hi (holds_square scale hull u held) e))
       (λ e. cond_both (int_le hull.lo (pos 0)) low high Encloses

@@ -4,7 +4,7 @@ use Rattle.std.proofs.lemmas.Bool.{cond_both}
 use Rattle.std.proofs.lemmas.Int.{ints}
 use Rattle.std.specs.Int.{div_ceil}
 use Rattle.std.specs.Prelude.{ℤ, pos, negsuc, ◌*ℤ◌, int_lt}
-use Rattle.fixdec.specs.Form.{LinearForm, divided, kept, lin_shift, multiplied}
+use Rattle.fixdec.specs.Form.{LinearForm, divided_form, within_cap, lin_shift, multiplied_form}
 use Rattle.fixdec.specs.FormMember.{IsFormMember, swing}
 use Rattle.fixdec.specs.Frac.{Frac, ◌≈◌, ◌*Q◌, ◌-Q◌, whole}
 use Rattle.fixdec.specs.Algebra.FracLaws.{≈_sym}
@@ -26,7 +26,7 @@ module _ (scale : ℕ) (s : Symbols) (a : LinearForm) (u v : Frac) (p : IsFormMe
   A = swing a.coefficients s 0
 
   -- a member over a whole number above 0
-  over : (n : ℕ) → (pos n ≡ pos 0 → ⊥) → v *Q whole (pos n) ≈ u → IsFormMember scale (divided (pos n) a.centre a.coefficients (div_ceil a.radius n)) s v
+  over : (n : ℕ) → (pos n ≡ pos 0 → ⊥) → v *Q whole (pos n) ≈ u → IsFormMember scale (divided_form (pos n) a.centre a.coefficients (div_ceil a.radius n)) s v
   over n h e =
       member-from scale _ s v
       (divided-law (pos n) h s a.centre a.coefficients (div_ceil a.radius n) (v *Q U)
@@ -37,7 +37,7 @@ module _ (scale : ℕ) (s : Symbols) (a : LinearForm) (u v : Frac) (p : IsFormMe
       (member-within scale a s u p))))
 
   -- a member times a whole number
-  times : (n : ℕ) → v ≈ u *Q whole (pos n) → IsFormMember scale (multiplied n a) s v
+  times : (n : ℕ) → v ≈ u *Q whole (pos n) → IsFormMember scale (multiplied_form n a) s v
   times n e =
       let N = whole (pos n) in
       let C = whole a.centre in
@@ -57,15 +57,15 @@ module _ (scale : ℕ) (s : Symbols) (a : LinearForm) (u v : Frac) (p : IsFormMe
   unfolding lin_shift
   shifted (pos zero) e =
       let same : v *Q whole (pos 1) ≈ u = e in
-      on_kept (multiplied 1 a) (λ r. IsFormMember scale r s v)
+      on_kept (multiplied_form 1 a) (λ r. IsFormMember scale r s v)
       (times 1 (linear (u ∷ v ∷ []) _ _ (search reads depth 12) (fact (whole (pos 1)) same (search reads depth 12) no_fact) tt))
   shifted (pos (suc k)) e =
       let n = 10 ^ suc k in
-      let f = divided (pos n) a.centre a.coefficients (div_ceil a.radius n) in
-      cond_both (int_lt (pos 0) (pos (suc k))) (kept f) (kept (multiplied n a)) (λ o. OnVal o (λ r. IsFormMember scale r s v))
+      let f = divided_form (pos n) a.centre a.coefficients (div_ceil a.radius n) in
+      cond_both (int_lt (pos 0) (pos (suc k))) (within_cap f) (within_cap (multiplied_form n a)) (λ o. OnVal o (λ r. IsFormMember scale r s v))
       (λ z. on_kept f (λ r. IsFormMember scale r s v) (over n (let h = unit_pos (suc k) in λ d. absurd (omega (arith, ints))) e))
       (λ z. absurd (grind (arith, ints)))
-  shifted (negsuc k) e = on_kept (multiplied (10 ^ suc k) a) (λ r. IsFormMember scale r s v) (times (10 ^ suc k) e)
+  shifted (negsuc k) e = on_kept (multiplied_form (10 ^ suc k) a) (λ r. IsFormMember scale r s v) (times (10 ^ suc k) e)
 
 -- a member over ten to the power k
 pub lin_shift-encloses : (scale : ℕ) (s : Symbols) (a : LinearForm) (k : ℤ) (u v : Frac) → IsFormMember scale a s u → IsShifted k u v

@@ -4,7 +4,7 @@ use Rattle.std.proofs.lemmas.Bool.{cond_both}
 use Rattle.std.proofs.lemmas.Int.{ints}
 use Rattle.std.specs.Prelude.{ℤ, pos, ◌+ℤ◌, ◌-ℤ◌, ◌≤ℤ◌, ◌||◌, int_div, int_lt, unsigned_abs}
 use Rattle.fixdec.specs.Ends.{Ends}
-use Rattle.fixdec.specs.Form.{LinearForm, added_at, combined, lin_clip, lin_hull, lin_minus, lin_of_span, lin_plus, lin_symbol, lin_widen}
+use Rattle.fixdec.specs.Form.{LinearForm, added_at, coefficientwise, lin_clip, lin_hull, lin_minus, lin_of_span, lin_plus, lin_symbol, lin_widen}
 use Rattle.fixdec.specs.FormMember.{IsFormMember, swing}
 use Rattle.fixdec.specs.Frac.{Frac, ◌≈◌, ◌+Q◌, ◌*Q◌, ◌-Q◌, neg_Q, whole}
 use Rattle.fixdec.specs.Algebra.FracLaws.{≈_sym}
@@ -47,12 +47,12 @@ module _ (scale : ℕ) (s : Symbols) where
 
   -- the aims of a sum and a difference
   aim_plus : (a b : LinearForm) (r : ℕ)
-      → aim (record { centre = a.centre +ℤ b.centre; coefficients = combined ◌+ℤ◌ a.coefficients b.coefficients; radius = r }) s ≈ aim a s +Q aim b s
+      → aim (record { centre = a.centre +ℤ b.centre; coefficients = coefficientwise ◌+ℤ◌ a.coefficients b.coefficients; radius = r }) s ≈ aim a s +Q aim b s
   aim_plus a b r =
       let A = swing a.coefficients s 0 in
       let B = swing b.coefficients s 0 in
       let one = whole (pos 1) in
-      linear (whole a.centre ∷ whole b.centre ∷ whole (a.centre +ℤ b.centre) ∷ A ∷ B ∷ swing (combined ◌+ℤ◌ a.coefficients b.coefficients) s 0 ∷ []) _ _ (search reads depth 12)
+      linear (whole a.centre ∷ whole b.centre ∷ whole (a.centre +ℤ b.centre) ∷ A ∷ B ∷ swing (coefficientwise ◌+ℤ◌ a.coefficients b.coefficients) s 0 ∷ []) _ _ (search reads depth 12)
       (name (whole_add a.centre b.centre) (search reads depth 12)
       (name (swing-combined s ◌+ℤ◌ one one each a.coefficients b.coefficients 0) (search reads depth 12) no_fact)) tt
     where
@@ -60,11 +60,11 @@ module _ (scale : ℕ) (s : Symbols) where
       each x y = linear (whole x ∷ whole y ∷ whole (x +ℤ y) ∷ []) _ _ (search reads depth 12) (name (whole_add x y) (search reads depth 12) no_fact) tt
 
   aim_minus : (a b : LinearForm) (r : ℕ)
-      → aim (record { centre = a.centre -ℤ b.centre; coefficients = combined ◌-ℤ◌ a.coefficients b.coefficients; radius = r }) s ≈ aim a s -Q aim b s
+      → aim (record { centre = a.centre -ℤ b.centre; coefficients = coefficientwise ◌-ℤ◌ a.coefficients b.coefficients; radius = r }) s ≈ aim a s -Q aim b s
   aim_minus a b r =
       let A = swing a.coefficients s 0 in
       let B = swing b.coefficients s 0 in
-      linear (whole a.centre ∷ whole b.centre ∷ whole (a.centre -ℤ b.centre) ∷ A ∷ B ∷ swing (combined ◌-ℤ◌ a.coefficients b.coefficients) s 0 ∷ []) _ _ (search reads depth 12)
+      linear (whole a.centre ∷ whole b.centre ∷ whole (a.centre -ℤ b.centre) ∷ A ∷ B ∷ swing (coefficientwise ◌-ℤ◌ a.coefficients b.coefficients) s 0 ∷ []) _ _ (search reads depth 12)
       (name (whole_sub a.centre b.centre) (search reads depth 12)
       (name (swing-combined s ◌-ℤ◌ (whole (pos 1)) (neg_Q (whole (pos 1))) each a.coefficients b.coefficients 0) (search reads depth 12) no_fact)) tt
     where
@@ -75,7 +75,7 @@ module _ (scale : ℕ) (s : Symbols) where
   unfolding lin_plus
   lin_plus-encloses a b u v p q =
       let r = a.radius + b.radius in
-      let f : LinearForm = record { centre = a.centre +ℤ b.centre; coefficients = combined ◌+ℤ◌ a.coefficients b.coefficients; radius = r } in
+      let f : LinearForm = record { centre = a.centre +ℤ b.centre; coefficients = coefficientwise ◌+ℤ◌ a.coefficients b.coefficients; radius = r } in
       on_kept f (λ g. IsFormMember scale g s (u +Q v))
       (member-from scale f s (u +Q v)
       (within_to (≈_sym (whole_add (pos a.radius) (pos b.radius)))
@@ -87,7 +87,7 @@ module _ (scale : ℕ) (s : Symbols) where
   unfolding lin_minus
   lin_minus-encloses a b u v p q =
       let r = a.radius + b.radius in
-      let f : LinearForm = record { centre = a.centre -ℤ b.centre; coefficients = combined ◌-ℤ◌ a.coefficients b.coefficients; radius = r } in
+      let f : LinearForm = record { centre = a.centre -ℤ b.centre; coefficients = coefficientwise ◌-ℤ◌ a.coefficients b.coefficients; radius = r } in
       on_kept f (λ g. IsFormMember scale g s (u -Q v))
       (member-from scale f s (u -Q v)
       (within_to (≈_sym (whole_add (pos a.radius) (pos b.radius)))

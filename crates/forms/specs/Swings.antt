@@ -2,7 +2,7 @@
 use Rattle.std.proofs.Common.{◌≡◌, ℕ, zero, suc, ◌+◌, [], ◌∷◌, List, ap, arith}
 use Rattle.std.specs.Prelude.{ℤ, pos, ◌+ℤ◌, map, replicate, unsigned_abs}
 use Rattle.std.proofs.lemmas.List.Sums.{sum_by-cons}
-use Rattle.fixdec.specs.Form.{added_at, combined, sizes}
+use Rattle.fixdec.specs.Form.{added_at, coefficientwise, sizes}
 use Rattle.fixdec.specs.FormMember.{swing}
 use Rattle.fixdec.specs.Frac.{Frac, ◌≈◌, ◌+Q◌, ◌*Q◌, neg_Q, whole}
 use Rattle.fixdec.specs.Algebra.FracLaws.{≈_refl, ≈_trans}
@@ -39,17 +39,17 @@ module _ (s : Symbols) where
 
   -- two lists whose coefficients are combined as p times the first and q times the second
   pub swing-combined : (f : ℤ → ℤ → ℤ) (p q : Frac) → ((x y : ℤ) → whole (f x y) ≈ p *Q whole x +Q q *Q whole y)
-      → (ks ls : List ℤ) (i : ℕ) → swing (combined f ks ls) s i ≈ p *Q swing ks s i +Q q *Q swing ls s i
+      → (ks ls : List ℤ) (i : ℕ) → swing (coefficientwise f ks ls) s i ≈ p *Q swing ks s i +Q q *Q swing ls s i
   swing-combined f p q h [] ls i =
       linear (p ∷ q ∷ swing ls s i ∷ swing (map (f (pos 0)) ls) s i ∷ []) _ _ (search reads depth 12)
       (name (swing-map (f (pos 0)) q (λ y. linear (p ∷ q ∷ whole y ∷ whole (f (pos 0) y) ∷ []) _ _ (search reads depth 12)
       (name (h (pos 0) y) (search reads depth 12) no_fact) tt) ls i) (search reads depth 12) no_fact) tt
   swing-combined f p q h (k ∷ ks) [] i =
-      linear (p ∷ q ∷ swing (k ∷ ks) s i ∷ swing (combined f (k ∷ ks) []) s i ∷ []) _ _ (search reads depth 12)
+      linear (p ∷ q ∷ swing (k ∷ ks) s i ∷ swing (coefficientwise f (k ∷ ks) []) s i ∷ []) _ _ (search reads depth 12)
       (name (swing-map (λ x. f x (pos 0)) p (λ x. linear (p ∷ q ∷ whole x ∷ whole (f x (pos 0)) ∷ []) _ _ (search reads depth 12)
       (name (h x (pos 0)) (search reads depth 12) no_fact) tt) (k ∷ ks) i) (search reads depth 12) no_fact) tt
   swing-combined f p q h (k ∷ ks) (l ∷ ls) i =
-      linear (p ∷ q ∷ s.at i ∷ whole k ∷ whole l ∷ whole (f k l) ∷ swing ks s (suc i) ∷ swing ls s (suc i) ∷ swing (combined f ks ls) s (suc i) ∷ []) _ _ (search reads depth 16)
+      linear (p ∷ q ∷ s.at i ∷ whole k ∷ whole l ∷ whole (f k l) ∷ swing ks s (suc i) ∷ swing ls s (suc i) ∷ swing (coefficientwise f ks ls) s (suc i) ∷ []) _ _ (search reads depth 16)
       (name (h k l) (search reads depth 16) (name (swing-combined f p q h ks ls (suc i)) (search reads depth 16) no_fact)) tt
 
   -- zeros don't swing

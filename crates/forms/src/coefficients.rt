@@ -20,7 +20,7 @@ pub fn sizes(ks: &[i128; 32]) -> u128
 pub fn sums(ka: &[i128; 32], kb: &[i128; 32]) -> [i128; 32]
     requires first { spec.sizes ka.now ≤ 10 ^ 18 }
     requires second { spec.sizes kb.now ≤ 10 ^ 18 }
-    ensures value { result ≡ spec.combined ◌+ℤ◌ ka.now kb.now }
+    ensures value { result ≡ spec.coefficientwise ◌+ℤ◌ ka.now kb.now }
     ensures bound { spec.sizes result ≤ 2 * 10 ^ 18 }
 {
     let mut out = [0; 32];
@@ -34,7 +34,7 @@ pub fn sums(ka: &[i128; 32], kb: &[i128; 32]) -> [i128; 32]
 pub fn differences(ka: &[i128; 32], kb: &[i128; 32]) -> [i128; 32]
     requires first { spec.sizes ka.now ≤ 10 ^ 18 }
     requires second { spec.sizes kb.now ≤ 10 ^ 18 }
-    ensures value { result ≡ spec.combined ◌-ℤ◌ ka.now kb.now }
+    ensures value { result ≡ spec.coefficientwise ◌-ℤ◌ ka.now kb.now }
     ensures bound { spec.sizes result ≤ 2 * 10 ^ 18 }
 {
     let mut out = [0; 32];
@@ -75,7 +75,7 @@ pub fn mixed(ca: i128, cb: i128, ka: &[i128; 32], kb: &[i128; 32]) -> [i128; 32]
     requires second_centre { InCap cb }
     requires first { spec.sizes ka.now ≤ 10 ^ 18 }
     requires second { spec.sizes kb.now ≤ 10 ^ 18 }
-    ensures value { result ≡ spec.combined (λ k l. ca *ℤ l +ℤ cb *ℤ k) ka.now kb.now }
+    ensures value { result ≡ spec.coefficientwise (λ k l. ca *ℤ l +ℤ cb *ℤ k) ka.now kb.now }
     ensures bound { spec.sizes result ≤ 2 * 10 ^ 36 }
 {
     let mut out = [0; 32];
@@ -103,7 +103,7 @@ pub fn left(unit: i128, q: i128, ka: &[i128; 32], kb: &[i128; 32]) -> [i128; 32]
     requires quotient { InCap q }
     requires first { spec.sizes ka.now ≤ 10 ^ 18 }
     requires second { spec.sizes kb.now ≤ 10 ^ 18 }
-    ensures value { result ≡ spec.combined (λ v w. v *ℤ unit -ℤ q *ℤ w) ka.now kb.now }
+    ensures value { result ≡ spec.coefficientwise (λ v w. v *ℤ unit -ℤ q *ℤ w) ka.now kb.now }
     ensures bound { spec.sizes result ≤ 2 * 10 ^ 36 }
 {
     let mut out = [0; 32];

@@ -63,7 +63,7 @@ fn kept<const S: u32>(centre: i128, coefficients: [i128; 32], radius: u128) -> S
     requires centre { unsigned_abs centre ≤ 10 ^ 37 }
     requires sizes { spec.sizes coefficients ≤ 10 ^ 37 }
     requires radius { radius ≤ 10 ^ 37 }
-    ensures { result ≡ spec.kept (record { centre = centre; coefficients = coefficients; radius = radius }) }
+    ensures { result ≡ spec.within_cap (record { centre = centre; coefficients = coefficients; radius = radius }) }
 {
     if centre.unsigned_abs() + deviation(&coefficients, radius) <= CAP.unsigned_abs() {
         Step::Val(Form {

@@ -87,7 +87,7 @@ fn beside(unit: i128, s: u128, radius: u128, far: u128) -> u128
 fn root_above<const S: u32>(a: &Form<S>) -> Step<Form<S>>
     requires scale { S ≤ 15 }
     requires above { pos 0 <ℤ (spec.lin_hull a.now).lo }
-    ensures { result ≡ spec.kept (spec.root_above S a.now) }
+    ensures { result ≡ spec.within_cap (spec.root_above S a.now) }
 {
     let hull = hull(a);
     let unit = unit(S);

@@ -26,7 +26,7 @@ pub fn divided<const S: u32>(
     requires centre { unsigned_abs n ≤ 2 * 10 ^ 36 }
     requires coefficients { spec.sizes ns.now ≤ 2 * 10 ^ 36 }
     requires radius { radius ≤ 5 * 10 ^ 36 }
-    ensures { result ≡ spec.kept (spec.moved q (spec.divided d n ns.now radius)) }
+    ensures { result ≡ spec.within_cap (spec.moved_form q (spec.divided_form d n ns.now radius)) }
 {
     let centre = quotient(d, n);
     let coefficients = quotients(d, ns);
@@ -65,7 +65,7 @@ pub fn product(x: i128, y: i128) -> i128
 
 // what a product has beside its centre and its coefficients, times the unit of the scale
 fn beside<const S: u32>(a: &Form<S>, b: &Form<S>) -> u128
-    ensures value { result ≡ spec.beside a.now b.now }
+    ensures value { result ≡ spec.error_terms a.now b.now }
     ensures bound { result ≤ 3 * 10 ^ 36 }
 {
     a.centre.unsigned_abs() * b.radius + b.centre.unsigned_abs() * a.radius + a.dev() * b.dev()

@@ -3,7 +3,7 @@ use Rattle.std.specs.Prelude.{◌-ℤ◌, ◌*ℤ◌, unsigned_abs}
 use Rattle.std.specs.Int.{w128, cast_signed, cast_unsigned, div_ceil}
 use Rattle.std.proofs.lemmas.Int.{ints, to_z-of_z}
 use native.Mathlib.Nat.{mul-le-mul}
-use Rattle.fixdec.specs.Form.{LinearForm, kept, moved, divided, combined, sizes}
+use Rattle.fixdec.specs.Form.{LinearForm, within_cap, moved_form, divided_form, coefficientwise, sizes}
 use Rattle.fixdec.specs.Interval.{unit}
 use Rattle.forms.proofs.Answered.{left_centre, left_coefficients, left_radius, far, about_lost, about_kept}
 use Rattle.forms.proofs.Sizes.{as_is}
@@ -33,7 +33,7 @@ module _ (g : Over) (c : After-ceiling-far g) where
   coefficients_is : c.left-coefficients.result ≡ left_coefficients g.row.S c.args.q c.args.a.now c.args.b.now
   coefficients_is =
       c.left-coefficients.ensures.value
-      ∙ (λ i. combined (λ v w. v *ℤ unit_is i -ℤ first_is i *ℤ w) (c.a.view_is i).coefficients (c.b.view_is i).coefficients)
+      ∙ (λ i. coefficientwise (λ v w. v *ℤ unit_is i -ℤ first_is i *ℤ w) (c.a.view_is i).coefficients (c.b.view_is i).coefficients)
 
   radius_is : c.left_radius-radius.result ≡ left_radius g.row.S c.args.q c.args.a.now c.args.b.now
   radius_is =
@@ -104,4 +104,4 @@ returns g c =
     let first = c.ceiling.ensures.value ∙ (λ i. div_ceil (radius_is g d i) (size_is g d i)) in
     let second = c.ceiling-2.ensures.value ∙ (λ i. div_ceil (f i * c.dev-dev.ensures.value i) (size_is g d i)) in
     about_kept g.row.S c.args.q a b far_size
-    (c.divided.ensures ∙ (λ i. kept (moved (first_is g d i) (divided (divisor_is g d i) (centre_is g d i) (coefficients_is g d i) (first i + second i)))))
+    (c.divided.ensures ∙ (λ i. within_cap (moved_form (first_is g d i) (divided_form (divisor_is g d i) (centre_is g d i) (coefficients_is g d i) (first i + second i)))))

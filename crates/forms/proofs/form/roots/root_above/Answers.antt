@@ -3,7 +3,7 @@ use Rattle.std.specs.Prelude.{pos, ◌-ℤ◌, ◌*ℤ◌, unsigned_abs}
 use Rattle.std.specs.Int.{w128, cast_signed, cast_unsigned, div_ceil}
 use Rattle.std.proofs.lemmas.Int.{ints, to_z-of_z, to_z_pos}
 use Rattle.fixdec.specs.Ends.{Ends}
-use Rattle.fixdec.specs.Form.{LinearForm, kept, moved, divided, lin_hull}
+use Rattle.fixdec.specs.Form.{LinearForm, within_cap, moved_form, divided_form, lin_hull}
 use Rattle.fixdec.specs.Interval.{unit}
 use Rattle.fixdec.specs.Root.{root, root_up_by}
 use Rattle.forms.proofs.Sizes.{as_is}
@@ -76,4 +76,4 @@ returns g c =
     ∙ (λ i. max (s i - root (unsigned_abs (lo i) * 10 ^ g.row.S)) (root_up_by (unsigned_abs (hi i) * 10 ^ g.row.S) - s i)) in
     let radius = c.beside-radius.ensures.value
     ∙ (λ i. div_ceil ((c.a.view_is i).radius * unsigned_abs (u i)) (2 * s i) + div_ceil (far i * far i) (2 * s i)) in
-    c.divided.ensures ∙ (λ i. kept (moved (first i) (divided (divisor i) (centre i) (coefficients i) (radius i))))
+    c.divided.ensures ∙ (λ i. within_cap (moved_form (first i) (divided_form (divisor i) (centre i) (coefficients i) (radius i))))

@@ -2,7 +2,7 @@ use Rattle.std.proofs.Common.{◌≡◌, ◌∙◌, ◌+◌, ◌≤◌, ◌∷�
 use Rattle.std.specs.Prelude.{◌+ℤ◌, unsigned_abs}
 use Rattle.std.specs.Int.{w128, cast_signed, cast_unsigned}
 use Rattle.std.proofs.lemmas.Int.{ints, to_z-of_z}
-use Rattle.fixdec.specs.Form.{kept, quotients, remainders}
+use Rattle.fixdec.specs.Form.{within_cap, quotients, remainders}
 use Rattle.fixdec.specs.Rounding.{floor}
 use Rattle.forms.proofs.form.rounded.divided.Goals as goal
 
@@ -25,4 +25,4 @@ returns g c =
     let coefficients : c.quotients-coefficients.result ≡ quotients c.args.d c.args.ns.now = simp to_z-of_z at c.quotients-coefficients.ensures.value in
     let count : c.remainders-rest.result ≡ remainders c.args.d (c.args.n ∷ c.args.ns.now)
     = c.remainders-rest.ensures.count ∙ (λ i. remainders (to_z-of_z w128 c.args.d divisor i) (to_z-of_z w128 c.args.n number i ∷ c.args.ns.now)) in
-    c.kept.ensures ∙ (λ i. kept (record { centre = centre i; coefficients = coefficients i; radius = c.args.radius + count i }))
+    c.kept.ensures ∙ (λ i. within_cap (record { centre = centre i; coefficients = coefficients i; radius = c.args.radius + count i }))
