@@ -1,5 +1,5 @@
 use Rattle.std.proofs.Common.{◌≡◌, ◌∙◌, arith}
-use Rattle.std.specs.Int.{w64, w128, int_min, int_max, cast_signed, cast_unsigned}
+use Rattle.std.specs.Int.{w64, int_min, int_max, cast_signed, cast_unsigned}
 use Rattle.std.proofs.lemmas.Int.{to_z-of_z, ints, clamps}
 use Rattle.fixdec.specs.Ends.{InCap}
 use Rattle.fixdec.specs.declared.step.Step.TheVariants.{Val}
