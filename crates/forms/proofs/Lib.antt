@@ -1,8 +1,12 @@
 pub mod Answered
+pub mod Filled
 pub mod Floors
 pub mod Lists
 pub mod Middles
 pub mod Overs
 pub mod Roots
+pub mod Rounds
 pub mod Sizes
 pub mod Totals
+pub mod Turned
+pub mod Uses

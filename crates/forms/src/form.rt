@@ -4,9 +4,9 @@
 ghost use Rattle.std.specs.Prelude.{◌≡◌, pos, ◌≤◌, ◌<◌, ◌^◌, ◌+◌, unsigned_abs, slice_index_or};
 ghost use Rattle.fixdec.specs.Form as spec;
 ghost use Rattle.fixdec.specs.Form.{LinearForm};
-ghost use Rattle.forms.specs.Kept.{IsKept};
+ghost use Rattle.forms.specs.Kept.{in_use};
 
-use crate::coefficients::sizes;
+use crate::coefficients::Counted;
 use fixdec::span::{CAP, Span};
 use fixdec::step::{Step, Why};
 use std::marker::Model;
@@ -24,19 +24,25 @@ mod sums;
 /// coefficients' sizes and the radius, are together at most `CAP`.
 #[derive(Clone, Copy, Debug, PartialEq, Eq)]
 pub struct Form<const S: u32> {
-    centre: i128,
-    coefficients: [i128; 32],
-    radius: u128,
+    centre: i64,
+    radius: u64,
+    deviation: u64,
+    // how many coefficients there are up to the last that isn't 0
+    used: usize,
+    coefficients: [i64; 32],
 }
 
 impl<const S: u32> Model for Form<S> {
+    ghost use Rattle.fixdec.specs.Form.{LinearForm, dev};
+    ghost use Rattle.forms.specs.Kept.{IsHeld, in_use};
+
     ghost Value = { LinearForm };
 
     ghost view = { λ f. record { centre = f.centre; coefficients = f.coefficients; radius = f.radius } };
 
-    ghost invariant = { λ f. IsKept (record { centre = f.centre; coefficients = f.coefficients; radius = f.radius }) };
+    ghost invariant = { λ f. IsHeld (record { centre = f.centre; coefficients = f.coefficients; radius = f.radius }) f.deviation f.used };
 
-    ghost inverse = { λ e. record { centre = e.centre; coefficients = e.coefficients; radius = e.radius } };
+    ghost inverse = { λ e. record { centre = e.centre; radius = e.radius; deviation = dev e; used = in_use e.coefficients; coefficients = e.coefficients } };
 }
 
 impl<const S: u32> Form<S> {
@@ -45,55 +51,46 @@ impl<const S: u32> Form<S> {
         requires { i < 32 }
         ensures { result ≡ slice_index_or self.now.coefficients i (pos 0) }
     {
-        self.coefficients[i]
+        self.coefficients[i] as i128
     }
 }
 
-// the deviation of a form with these coefficients and this radius
-fn deviation(coefficients: &[i128; 32], radius: u128) -> u128
-    requires sizes { spec.sizes coefficients.now ≤ 10 ^ 37 }
-    requires radius { radius ≤ 10 ^ 37 }
-    ensures { result ≡ spec.sizes coefficients.now + radius }
-{
-    sizes(coefficients) + radius
-}
-
 // the form, or Lost(Range) where its centre's size and deviation pass the cap
-fn kept<const S: u32>(centre: i128, coefficients: [i128; 32], radius: u128) -> Step<Form<S>>
+#[inline(always)]
+fn kept<const S: u32>(
+    centre: i128,
+    coefficients: &[i64; 32],
+    counted: Counted,
+    radius: u128,
+) -> Step<Form<S>>
     requires centre { unsigned_abs centre ≤ 10 ^ 37 }
-    requires sizes { spec.sizes coefficients ≤ 10 ^ 37 }
+    requires size { counted.size ≡ spec.sizes coefficients.now }
+    requires used { counted.used ≡ in_use coefficients.now }
     requires radius { radius ≤ 10 ^ 37 }
-    ensures { result ≡ spec.within_cap (record { centre = centre; coefficients = coefficients; radius = radius }) }
+    ensures { result ≡ spec.within_cap (record { centre = centre; coefficients = coefficients.now; radius = radius }) }
 {
-    if centre.unsigned_abs() + deviation(&coefficients, radius) <= CAP.unsigned_abs() {
+    let deviation = counted.size as u128 + radius;
+    if centre.unsigned_abs() + deviation <= CAP.unsigned_abs() {
         Step::Val(Form {
-            centre,
-            coefficients,
-            radius,
+            centre: centre as i64,
+            radius: radius as u64,
+            deviation: deviation as u64,
+            used: counted.used,
+            coefficients: *coefficients,
         })
     } else {
         Step::Lost(Why::Range)
     }
 }
 
-impl<const S: u32> Form<S> {
-    // the deviation
-    fn dev(&self) -> u128
-        ensures value { result ≡ spec.dev self.now }
-        ensures bound { result ≤ 10 ^ 18 }
-    {
-        deviation(&self.coefficients, self.radius)
-    }
-}
-
 /// The least span that holds every member.
+#[inline(always)]
 pub(crate) fn hull<const S: u32>(a: &Form<S>) -> Span
     ensures { result ≡ spec.lin_hull a.now }
 {
-    let dev = a.dev() as i128;
     Span {
-        lo: a.centre - dev,
-        hi: a.centre + dev,
+        lo: (a.centre - a.deviation as i64) as i128,
+        hi: (a.centre + a.deviation as i64) as i128,
     }
 }
 

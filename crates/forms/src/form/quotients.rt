@@ -1,19 +1,30 @@
 //! Quotients of forms.
 
-ghost use Rattle.std.specs.Prelude.{◌≡◌, ◌≤◌, ◌<◌, ◌+◌, ◌-◌, ◌*◌, ◌^◌, unsigned_abs};
+ghost use Rattle.std.specs.Prelude.{◌≡◌, pos, negsuc, ◌⊎◌, ◌≤◌, ◌<◌, ◌+◌, ◌-◌, ◌*◌, ◌^◌, ◌≤ℤ◌, ◌<ℤ◌, ◌*ℤ◌, neg_ℤ, unsigned_abs};
 ghost use Rattle.fixdec.specs.Ends.{InCap};
 ghost use Rattle.fixdec.specs.Form as spec;
 
 use super::Form;
-use super::rounded::{ceiling, divided, product, unit};
-use crate::coefficients::{left, left_at, sizes};
-use fixdec::div::floor_div;
+use super::rounded::{divided, size_product, unit};
+use crate::coefficients::{mixed_at, narrow, product, round_mixed};
+use crate::rounding::Divisor;
 use fixdec::span::CAP;
 use fixdec::step::{Step, Why};
 
+// a number, turned where the divisor is below 0
+#[inline(always)]
+fn turned(divisor: i64, z: i64) -> i64
+    requires { InCap z }
+    ensures value { ((pos 0 ≤ℤ divisor) × (result ≡ z)) ⊎ ((divisor <ℤ pos 0) × (result ≡ neg_ℤ z)) }
+    ensures bound { unsigned_abs result ≡ unsigned_abs z }
+{
+    if divisor < 0 { -z } else { z }
+}
+
 // what a first quotient leaves of the radius: that of the dividend times the unit of the scale, and
 // that of the divisor times the quotient's size
-fn left_radius(unit: i128, q: i128, ra: u128, rb: u128) -> u128
+#[inline(always)]
+fn left_radius(unit: i64, q: i64, ra: u64, rb: u64) -> u128
     requires unit { unsigned_abs unit ≤ 10 ^ 15 }
     requires quotient { InCap q }
     requires first { ra ≤ 10 ^ 18 }
@@ -21,38 +32,41 @@ fn left_radius(unit: i128, q: i128, ra: u128, rb: u128) -> u128
     ensures value { result ≡ ra * unsigned_abs unit + unsigned_abs q * rb }
     ensures bound { result ≤ 2 * 10 ^ 36 }
 {
-    ra * unit.unsigned_abs() + q.unsigned_abs() * rb
+    size_product(ra, unit.unsigned_abs()) + size_product(q.unsigned_abs(), rb)
 }
 
-// how far a quotient lies from a first one, times the least size of the divisor
-fn reach(centre: i128, coefficients: &[i128; 32], radius: u128) -> u128
-    requires centre { unsigned_abs centre ≤ 2 * 10 ^ 36 }
-    requires sizes { spec.sizes coefficients.now ≤ 2 * 10 ^ 36 }
-    requires radius { radius ≤ 2 * 10 ^ 36 }
-    ensures value { result ≡ unsigned_abs centre + spec.sizes coefficients.now + radius }
-{
-    centre.unsigned_abs() + sizes(coefficients) + radius
-}
-
-// the quotient about a first quotient q of the centres
-fn quotient_about<const S: u32>(q: i128, a: &Form<S>, b: &Form<S>) -> Step<Form<S>>
+// the quotient about a first quotient q of the centres, where `by` is the size of the divisor's
+#[inline(always)]
+fn quotient_about<const S: u32>(by: &Divisor, q: i64, a: &Form<S>, b: &Form<S>) -> Step<Form<S>>
     requires scale { S ≤ 15 }
     requires first { InCap q }
     requires divisor { spec.dev b.now < unsigned_abs b.now.centre }
+    requires size { by.now ≡ pos (unsigned_abs b.now.centre) }
     ensures { result ≡ spec.quotient_about S q a.now b.now }
 {
-    let unit = unit(S);
-    let centre = left_at(unit, q, a.centre, b.centre);
-    let coefficients = left(unit, q, &a.coefficients, &b.coefficients);
+    let unit = turned(b.centre, unit(S));
+    let factor = turned(b.centre, -q);
+    let mut coefficients = [0; 32];
+    let Some(rounded) = round_mixed(
+        &mut coefficients,
+        by,
+        a.used.max(b.used),
+        unit,
+        &a.coefficients,
+        factor,
+        &b.coefficients,
+    ) else {
+        return Step::Lost(Why::Range);
+    };
+    let centre = mixed_at(unit, a.centre, factor, b.centre);
     let radius = left_radius(unit, q, a.radius, b.radius);
-    let divisor = b.centre.unsigned_abs();
-    let dev = b.dev();
-    let far = ceiling(reach(centre, &coefficients, radius), divisor - dev);
+    let least = Divisor::new((b.centre.unsigned_abs() - b.deviation) as i64);
+    let far = least.ceiling(centre.unsigned_abs() + rounded.numerators + radius);
     if CAP.unsigned_abs() < far {
         return Step::Lost(Why::Range);
     }
-    let beside = ceiling(radius, divisor) + ceiling(far * dev, divisor);
-    divided(q, b.centre, centre, &coefficients, beside)
+    let beside = by.ceiling(radius) + by.ceiling(size_product(far as u64, b.deviation));
+    divided(q, by, centre, &coefficients, rounded, beside)
 }
 
 /// The quotient: `Lost(Zero)` exactly where the divisor's hull holds 0.
@@ -61,12 +75,15 @@ pub fn over<const S: u32>(a: &Form<S>, b: &Form<S>) -> Step<Form<S>>
     requires { S ≤ 15 }
     ensures { result ≡ spec.lin_over S a.now b.now }
 {
-    if b.centre.unsigned_abs() <= b.dev() {
+    if b.centre.unsigned_abs() <= b.deviation {
         return Step::Lost(Why::Zero);
     }
-    let first = floor_div(product(a.centre, unit(S)), b.centre);
+    let by = Divisor::new(b.centre.unsigned_abs() as i64);
+    let first = by
+        .quotient(product(a.centre, turned(b.centre, unit(S))))
+        .floor;
     if CAP.unsigned_abs() < first.unsigned_abs() {
         return Step::Lost(Why::Range);
     }
-    quotient_about(first, a, b)
+    quotient_about(&by, narrow(first), a, b)
 }

@@ -6,13 +6,14 @@ ghost use Rattle.fixdec.specs.Ends.{InCap};
 ghost use Rattle.fixdec.specs.Form as spec;
 ghost use Rattle.fixdec.specs.Root.{root, root_up_by};
 
-use super::rounded::{ceiling, divided, product, unit};
+use super::rounded::{divided, size_product, unit};
 use super::spans::of_span;
 use super::{Form, hull};
-use crate::coefficients::multiplied;
+use crate::coefficients::{product, round_mixed};
+use crate::rounding::Divisor;
 use enclose::spans::iv_root;
 use fixdec::root::{isqrt_ceil, isqrt_floor};
-use fixdec::step::Step;
+use fixdec::step::{Step, Why};
 
 // the size of a number times the unit of the scale
 fn radicand(scale: u32, z: i128) -> u128
@@ -21,7 +22,7 @@ fn radicand(scale: u32, z: i128) -> u128
     ensures value { result ≡ unsigned_abs z * 10 ^ scale }
     ensures bound { result ≤ 10 ^ 33 }
 {
-    z.unsigned_abs() * unit(scale).unsigned_abs()
+    z.unsigned_abs() * unit(scale).unsigned_abs() as u128
 }
 
 // the root, rounded down, of a number's size
@@ -59,28 +60,15 @@ fn reach(scale: u32, s: u128, lo: i128, hi: i128) -> u128
 }
 
 // what a first root s leaves of a number times the unit of the scale
-fn left(unit: i128, s: u128, z: i128) -> i128
+#[inline(always)]
+fn left(unit: i64, s: u64, z: i64) -> i128
     requires unit { InCap unit }
     requires root { s ≤ 10 ^ 17 }
     requires number { InCap z }
     ensures value { result ≡ z *ℤ unit -ℤ pos (s * s) }
     ensures bound { unsigned_abs result ≤ 2 * 10 ^ 36 }
 {
-    product(z, unit) - (s * s) as i128
-}
-
-// what a root has beside its centre and its coefficients, about a first root s
-fn beside(unit: i128, s: u128, radius: u128, far: u128) -> u128
-    requires unit { unsigned_abs unit ≤ 10 ^ 15 }
-    requires root { 0 < s }
-    requires bound { s ≤ 10 ^ 17 }
-    requires radius { radius ≤ 10 ^ 18 }
-    requires far { far ≤ 10 ^ 17 }
-    ensures value { result ≡ div_ceil (radius * unsigned_abs unit) (2 * s) + div_ceil (far * far) (2 * s) }
-    ensures bound { result ≤ 10 ^ 36 }
-{
-    let divisor = 2 * s;
-    ceiling(radius * unit.unsigned_abs(), divisor) + ceiling(far * far, divisor)
+    product(z, unit) - size_product(s, s) as i128
 }
 
 // the root of a form whose hull lies above 0
@@ -91,18 +79,18 @@ fn root_above<const S: u32>(a: &Form<S>) -> Step<Form<S>>
 {
     let hull = hull(a);
     let unit = unit(S);
-    let first = root_down(S, a.centre);
-    let far = reach(S, first, hull.lo, hull.hi);
+    let first = root_down(S, a.centre as i128) as u64;
+    let by = Divisor::new((2 * first) as i64);
+    let mut coefficients = [0; 32];
+    let ks = &a.coefficients;
+    let Some(rounded) = round_mixed(&mut coefficients, &by, a.used, unit, ks, 0, ks) else {
+        return Step::Lost(Why::Range);
+    };
     let centre = left(unit, first, a.centre);
-    let coefficients = multiplied(unit, &a.coefficients);
-    let radius = beside(unit, first, a.radius, far);
-    divided(
-        first as i128,
-        (2 * first) as i128,
-        centre,
-        &coefficients,
-        radius,
-    )
+    let far = reach(S, first as u128, hull.lo, hull.hi) as u64;
+    let radius = by.ceiling(size_product(a.radius, unit.unsigned_abs()))
+        + by.ceiling(size_product(far, far));
+    divided(first as i64, &by, centre, &coefficients, rounded, radius)
 }
 
 /// The root that isn't negative. `Empty` exactly where the hull lies below 0; the form of the hull's

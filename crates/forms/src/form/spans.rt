@@ -30,14 +30,18 @@ fn reach(lo: i128, hi: i128, centre: i128) -> u128
 }
 
 /// The form of a span.
+#[inline(always)]
 #[tactic(auto, unfolding(fixdec::specs::Form::lin_of_span))]
 pub fn of_span<const S: u32>(s: Span) -> Form<S>
     ensures { result ≡ spec.lin_of_span s }
 {
     let centre = middle(s);
+    let radius = reach(s.lo, s.hi, centre) as u64;
     Form {
-        centre,
+        centre: centre as i64,
+        radius,
+        deviation: radius,
+        used: 0,
         coefficients: [0; 32],
-        radius: reach(s.lo, s.hi, centre),
     }
 }

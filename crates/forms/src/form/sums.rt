@@ -5,44 +5,73 @@ ghost use Rattle.fixdec.specs.Ends.{InCap};
 ghost use Rattle.fixdec.specs.Form as spec;
 
 use super::{Form, hull, kept};
-use crate::coefficients::{added_at, differences, sums};
+use crate::coefficients::{Counted, add, added_at, narrow, sizes, subtract, used_of};
 use fixdec::span::Span;
 use fixdec::step::Step;
 
 /// The sum.
+#[inline(always)]
 #[tactic(auto, unfolding(fixdec::specs::Form::lin_plus))]
 pub fn plus<const S: u32>(a: &Form<S>, b: &Form<S>) -> Step<Form<S>>
     ensures { result ≡ spec.lin_plus a.now b.now }
 {
+    let mut coefficients = [0; 32];
+    let counted = add(
+        &mut coefficients,
+        a.used.max(b.used),
+        &a.coefficients,
+        &b.coefficients,
+    );
     kept(
-        a.centre + b.centre,
-        sums(&a.coefficients, &b.coefficients),
-        a.radius + b.radius,
+        (a.centre + b.centre) as i128,
+        &coefficients,
+        counted,
+        (a.radius + b.radius) as u128,
     )
 }
 
 /// The difference.
+#[inline(always)]
 #[tactic(auto, unfolding(fixdec::specs::Form::lin_minus))]
 pub fn minus<const S: u32>(a: &Form<S>, b: &Form<S>) -> Step<Form<S>>
     ensures { result ≡ spec.lin_minus a.now b.now }
 {
+    let mut coefficients = [0; 32];
+    let counted = subtract(
+        &mut coefficients,
+        a.used.max(b.used),
+        &a.coefficients,
+        &b.coefficients,
+    );
     kept(
-        a.centre - b.centre,
-        differences(&a.coefficients, &b.coefficients),
-        a.radius + b.radius,
+        (a.centre - b.centre) as i128,
+        &coefficients,
+        counted,
+        (a.radius + b.radius) as u128,
     )
 }
 
 /// The form with its radius grown by `e`, from 0 to the cap.
+#[inline(always)]
 #[tactic(auto, unfolding(fixdec::specs::Form::lin_widen))]
 pub fn widen<const S: u32>(a: &Form<S>, e: i128) -> Step<Form<S>>
     requires { InCap e }
     ensures { result ≡ spec.lin_widen a.now e }
 {
-    kept(a.centre, a.coefficients, a.radius + e.unsigned_abs())
+    let counted = Counted {
+        used: a.used,
+        size: a.deviation - a.radius,
+    };
+    kept(
+        a.centre as i128,
+        &a.coefficients,
+        counted,
+        a.radius as u128 + e.unsigned_abs(),
+    )
 }
 
 /// The form unchanged: `Empty` exactly where its hull and `s` have no number in common.
+#[inline(always)]
 #[tactic(auto, unfolding(fixdec::specs::Form::lin_clip))]
 pub fn clip<const S: u32>(a: &Form<S>, s: Span) -> Step<Form<S>>
     ensures { result ≡ spec.lin_clip a.now s }
@@ -61,9 +90,15 @@ pub fn symbol<const S: u32>(a: &Form<S>, i: usize, delta: Span) -> Step<Form<S>>
     requires { i < 32 }
     ensures { result ≡ spec.lin_symbol a.now i delta }
 {
+    let coefficients = added_at(i, narrow(delta.lo), &a.coefficients);
+    let counted = Counted {
+        used: used_of(&coefficients),
+        size: sizes(&coefficients),
+    };
     kept(
-        a.centre,
-        added_at(i, delta.lo, &a.coefficients),
-        a.radius + (delta.hi - delta.lo).unsigned_abs(),
+        a.centre as i128,
+        &coefficients,
+        counted,
+        a.radius as u128 + (delta.hi - delta.lo).unsigned_abs(),
     )
 }

@@ -94,7 +94,7 @@ fn check_row<const S: u32>(rt: &impl Abort, a: Parts, b: Parts, want: [Step<Part
 fn parts<const S: u32>(rt: &impl Abort, answer: Step<Form<S>>) -> Parts {
     match answer {
         Step::Val(f) => (
-            f.centre,
+            f.centre as i128,
             f.coefficient(0),
             f.coefficient(31),
             f.radius as i128,

@@ -1,17 +1,16 @@
-use Rattle.std.proofs.Common.{arith}
-use Rattle.forms.proofs.Sizes.{fits, as_is, sum_is, sum_size}
+use Rattle.std.proofs.Common.{◌≡◌, arith}
+use Rattle.std.specs.Prelude.{◌*ℤ◌}
+use Rattle.std.proofs.lemmas.Int.{ints, to_z-of_z}
 use Rattle.forms.proofs.coefficients.mixed_at.Goals as goal
 
-pub overflow_add-result : goal.overflow_add-result
-overflow_add-result c =
-    let a = c.args in
-    let r = c.requires in
-    let size = sum_size a.ca a.l a.cb a.k r.first_centre r.second r.second_centre r.first in
-    rw (sum_is a.ca a.l a.cb a.k r.first_centre r.second r.second_centre r.first) (fits _ (omega arith))
-
-pub returns : goal.returns
-returns c =
-    let a = c.args in
-    let r = c.requires in
-    let size = sum_size a.ca a.l a.cb a.k r.first_centre r.second r.second_centre r.first in
-    rw (sum_is a.ca a.l a.cb a.k r.first_centre r.second r.second_centre r.first) (as_is _ (omega arith))
+pub returns-clause-value : goal.returns-clause-value
+returns-clause-value c =
+    let x = c.ranges.x in
+    let k = c.ranges.k in
+    let y = c.ranges.y in
+    let l = c.ranges.l in
+    let first : c.product.result ≡ c.args.x *ℤ c.args.k = simp to_z-of_z at c.product.ensures.value in
+    let second : c.product-2.result ≡ c.args.y *ℤ c.args.l = simp to_z-of_z at c.product-2.ensures.value in
+    let p = c.product.ensures.bound in
+    let q = c.product-2.ensures.bound in
+    rw (← first, ← second) (omega (arith, ints))
