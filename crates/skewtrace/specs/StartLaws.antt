@@ -43,7 +43,8 @@ part_times n h =
 module _ {A : Type 0} (scale : ℕ) (o : Operations A) (member : A → Symbols → Frac → Type 0) (law : IsLawful scale o member) (sy : Symbols) where
   ratio_cases : (b : Bool) (num : Decimal) (den : ℕ) → (b ≡ true → den ≡ 1) → 1 ≤ den
       → OnVal (if b then decimal_row o scale num else (decimal_row o scale num >>= λ a. whole_row o scale (pos den) >>= λ d. o.over a d))
-        (λ x. member x sy (value num *Q part den))
+      (λ x. member x sy (value num *Q part den))
+  unfolding whole
   ratio_cases true num den one h =
       rw (one refl) (on_same scale o member law sy (decimal_row o scale num) _ _
       (linear (value num ∷ []) (value num) (value num *Q whole (pos 1)) (search reads depth 12) no_fact tt) (decimal_member scale o member law sy num))

@@ -91,21 +91,14 @@ fn pupil<T: Arith>(p: &Dec, q: &Dec, px: &Ratio, py: &Ratio, z: &Dec, r: &Dec) -
 }
 
 /// The foot of a launch.
-fn foot<T: Arith>(q: &Launch) -> Step<Foot<T>>
+fn foot_of<T: Arith>(q: &Launch) -> Step<Foot<T>>
     requires { T.SCALE ≤ 15 }
     ensures exact { result ≡ rows.launch_rows T.ops T.SCALE q.now }
     ensures parts { HasParts q.now }
 {
     match q {
         Launch::Plain { x, y, p, q } => plain(x, y, p, q),
-        Launch::Pupil {
-            p,
-            q,
-            px,
-            py,
-            z,
-            r,
-        } => pupil(p, q, px, py, z, r),
+        Launch::Pupil { p, q, px, py, z, r } => pupil(p, q, px, py, z, r),
     }
 }
 
@@ -128,7 +121,7 @@ fn lateral<T: Arith>(p: T, n: T, e: i128) -> Step<T>
     requires scale { T.SCALE ≤ 15 }
     requires low { pos 0 ≤ℤ e }
     requires high { InCap e }
-    ensures { result ≡ rows.lateral_row T.ops p n e }
+    ensures { result ≡ rows.lateral_row T.ops T.SCALE p n e }
 {
     val!(p.times(n)).widen(e)
 }
@@ -142,7 +135,7 @@ fn rows_of<T: Arith>(q: &Launch, e: i128) -> Step<Ray<T>>
     ensures exact { result ≡ rows.start_rows T.ops T.SCALE q.now e }
     ensures parts { HasParts q.now }
 {
-    let f = val!(foot::<T>(q));
+    let f = val!(foot_of::<T>(q));
     let n = val!(axial(f.p, f.q, e));
     let l = val!(lateral(f.p, n, e));
     let m = val!(lateral(f.q, n, e));

@@ -11,4 +11,4 @@ returns-clause-encloses g c =
     let scale = g.T.Arith.SCALE in
     rw (c.rows_of.ensures.exact, to_z-of_z w128 c.residual_units.result (record { sfits = c.residual_units.type_inv }), c.residual_units.ensures.value, c.SCALE.ensures)
     (start_rows-encloses scale g.T.Arith.ops g.T.Arith.member (g.met.T.Arith.lawful c.requires) s (residual_units scale s.res) (covers_residual scale s.res)
-      c.args.q.now c.rows_of.ensures.parts)
+    c.args.q.now c.rows_of.ensures.parts)
