@@ -12,12 +12,12 @@ use Rattle.fixdec.specs.Algebra.Terms.{Is, is_mul, is_whole, same_if}
 use Rattle.fixdec.specs.Member.{Symbols}
 use Rattle.fixdec.specs.Operations.{Operations, IsLawful}
 use Rattle.fixdec.specs.Steps.{OnVal, OnVal-then, ◌>>=◌}
-use Rattle.lensmodel.specs.Claims.Enclosure.{CoversResidual, HoldsRay, EnclosesStart}
+use Rattle.lensmodel.specs.Claims.Enclosure.{CoversResidual, EnclosesStart}
 use Rattle.lensmodel.specs.Equations.Chain.{Chain}
 use Rattle.lensmodel.specs.Equations.Residual.{IsWithin}
 use Rattle.lensmodel.specs.Equations.Start.{Starts, ratio, height_x, height_y, slope_x, slope_y}
 use Rattle.lensmodel.specs.Rows.Constants.{decimal_row, whole_row}
-use Rattle.lensmodel.specs.Rows.Laws.{Covers, decimal_member, whole_member, on_same, widened}
+use Rattle.lensmodel.specs.Rows.Laws.{decimal_member, whole_member, on_same, widened}
 use Rattle.lensmodel.specs.Rows.Start.{Sloped, ratio_row, pupil_row, launch_rows, axial_row, lateral_row, start_rows}
 use Rattle.lensmodel.specs.Setup.Ratio.{Ratio}
 use Rattle.lensmodel.specs.Setup.Values.{eps}
