@@ -94,9 +94,9 @@ module _ {A : Type 0} (scale : ℕ) (o : Operations A) (member : A → Symbols �
       let sy = c.symbols in
       let D = E *Q (c.x (suc j) *Q c.l j +Q c.y (suc j) *Q c.m j) in
       let onwards : whole (pos 0) ≤Q whole face.sign *Q c.n j =
-          subst (λ (z : ℤ). whole (pos 0) ≤Q whole z *Q c.n j) (sym holds.sign) (le_of_lt transfer.onwards) in
+      subst (λ (z : ℤ). whole (pos 0) ≤Q whole z *Q c.n j) (sym holds.sign) (le_of_lt transfer.onwards) in
       let cosine : IsWithin (eps s) (G *Q C) (whole face.sign *Q (c.n j -Q D)) =
-          subst (λ (z : ℤ). IsWithin (eps s) (G *Q C) (whole z *Q (c.n j -Q D))) (sym holds.sign) normal.cosine in
+      subst (λ (z : ℤ). IsWithin (eps s) (G *Q C) (whole z *Q (c.n j -Q D))) (sym holds.sign) normal.cosine in
       OnVal-along (o.clip ray.n (side_of face.sign)) _ _ (λ r. member r sy (c.n j)) (λ c. AreInCap (o.hull c)) _
       (clip_side-member scale o member law sy ray.n (c.n j) face.sign face_sign k.n hr.n onwards) k.cos λ n hn k1.
       OnVal-along (normal_rows o scale face hit e) _ _ (λ r. member r sy E) (λ c. AreInCap (o.hull c)) _

@@ -16,13 +16,7 @@ use sagform::face::Face;
 use sagform::ray::{Dir, Hit, Ray};
 
 /// The direction behind a surface, from the normal.
-fn bent<T: Arith>(
-    f: &Face<T>,
-    r: &Ray<T>,
-    h: &Hit<T>,
-    normal: &Normal<T>,
-    e: i128,
-) -> Step<Dir<T>>
+fn bent<T: Arith>(f: &Face<T>, r: &Ray<T>, h: &Hit<T>, normal: &Normal<T>, e: i128) -> Step<Dir<T>>
     requires scale { T.SCALE ≤ 15 }
     requires low { pos 0 ≤ℤ e }
     requires high { InCap e }

@@ -1,7 +1,7 @@
 //! Values clipped to one side of 0.
 
 ghost use Rattle.std.specs.Prelude.{◌≡◌, ℤ, ◌≤◌};
-ghost use Rattle.lensmodel.specs.Rows.Spans.{positive, side_of};
+ghost use Rattle.lensmodel.specs.Rows.Spans.{side_of};
 ghost use Rattle.refract.specs.Clipping.{AreInCap};
 
 use enclose::arith::Arith;

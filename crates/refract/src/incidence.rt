@@ -84,12 +84,7 @@ fn cosine<T: Arith>(sign: i32, n: T, along: T, g: T, e: i128) -> Step<T>
 
 /// E, g, C and N.
 #[tactic(auto, unfolding(lensmodel::specs::Rows::Bending::incidence_rows))]
-pub(crate) fn incidence<T: Arith>(
-    f: &Face<T>,
-    r: &Ray<T>,
-    h: &Hit<T>,
-    e: i128,
-) -> Step<Normal<T>>
+pub(crate) fn incidence<T: Arith>(f: &Face<T>, r: &Ray<T>, h: &Hit<T>, e: i128) -> Step<Normal<T>>
     requires scale { T.SCALE ≤ 15 }
     requires low { pos 0 ≤ℤ e }
     requires high { InCap e }
