@@ -1,0 +1,6 @@
+pub mod Cells
+pub mod Conic
+pub mod Meeting
+pub mod Polynomial
+pub mod Powers
+pub mod Sag

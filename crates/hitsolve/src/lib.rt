@@ -1,0 +1,2 @@
+//! Where rays meet the surfaces of a lens.
+#![tactic(auto)]
