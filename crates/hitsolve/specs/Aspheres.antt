@@ -4,3 +4,4 @@ pub mod Meeting
 pub mod Polynomial
 pub mod Powers
 pub mod Sag
+pub mod Window

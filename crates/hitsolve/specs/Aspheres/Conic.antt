@@ -21,7 +21,7 @@ IsConic eps c k rho zc = IsWithin eps (c *Q (rho +Q k *Q zc *Q zc)) (whole (pos 
 abbrev pub double_sag : Frac → Frac → Frac → Frac
 double_sag c k zc = whole (pos 2) *Q zc -Q k *Q c *Q zc *Q zc
 
-near_double_sag : (eps c k rho zc : Frac) → IsConic eps c k rho zc → IsWithin eps (double_sag c k zc) (c *Q rho)
+pub near_double_sag : (eps c k rho zc : Frac) → IsConic eps c k rho zc → IsWithin eps (double_sag c k zc) (c *Q rho)
 near_double_sag eps c k rho zc h = record {
   above = linear_le (eps ∷ c ∷ k ∷ rho ∷ zc ∷ []) _ _ (search reads depth 20 fits 4000) (order zero_le_one h.below (search reads depth 20 fits 4000) no_fact) tt;
   below = linear_le (eps ∷ c ∷ k ∷ rho ∷ zc ∷ []) _ _ (search reads depth 20 fits 4000) (order zero_le_one h.above (search reads depth 20 fits 4000) no_fact) tt;
