@@ -1,5 +1,6 @@
 pub mod Cells
 pub mod Conic
+pub mod Identity
 pub mod Meeting
 pub mod MidRoot
 pub mod Polynomial
