@@ -3,7 +3,9 @@ pub mod Conic
 pub mod Identity
 pub mod Meeting
 pub mod MidRoot
+pub mod Middle
 pub mod Polynomial
 pub mod Powers
+pub mod Rounds
 pub mod Sag
 pub mod Window

@@ -81,6 +81,13 @@ module _ (eps bound g : Frac) (some : whole (pos 0) <Q eps) (nn : whole (pos 0) 
   pub mid_root : (v : Frac) × IsMidRoot eps bound g v
   mid_root = let r = near_root part (g +Q part +Q part) part_pos (add_nn (add_nn gn (le_of_lt part_pos)) (le_of_lt part_pos)) in (r.0, mid_root_is r.0 r.1)
 
+-- one plus a number above 0 has an inverse
+pub past_one : {v : Frac} → whole (pos 0) <Q v → whole (pos 0) <Q whole (pos 1) +Q v
+past_one {v} p = lt_of_lt_le p (linear_le (v ∷ []) _ _ (search reads depth 20 fits 4000) (order zero_le_one zero_le_one (search reads depth 20 fits 4000) no_fact) tt)
+
+pub one_plus : {v : Frac} → whole (pos 0) <Q v → (whole (pos 1) +Q v) *Q inverse (whole (pos 1) +Q v) ≈ whole (pos 1)
+one_plus {v} p = inverse_is (whole (pos 1) +Q v) (pos_nonzero (past_one p))
+
 -- what the miss leaves in the sag: sag times miss, over one plus the root
 pub root_error : (eps bound g v zc : Frac) → IsMidRoot eps bound g v → HasSize bound zc
     → HasSize eps (zc *Q ((g -Q v *Q v) *Q inverse (whole (pos 1) +Q v)))
@@ -90,16 +97,13 @@ root_error eps bound g v zc r h =
     (within_to (linear (bound ∷ r.miss ∷ []) _ _ (search reads depth 20 fits 4000) no_fact tt)
     (within_mul h (within_mul r.near one)))
   where
-    past : whole (pos 0) <Q whole (pos 1) +Q v
-    past = lt_of_lt_le r.positive (linear_le (v ∷ []) _ _ (search reads depth 20 fits 4000) (order zero_le_one zero_le_one (search reads depth 20 fits 4000) no_fact) tt)
-
     inn : whole (pos 0) ≤Q inverse (whole (pos 1) +Q v)
-    inn = le_of_lt (inverse_pos _ past)
+    inn = le_of_lt (inverse_pos _ (past_one r.positive))
 
     one : HasSize (whole (pos 1)) (inverse (whole (pos 1) +Q v))
     one = record {
       above = linear_le (v ∷ inverse (whole (pos 1) +Q v) ∷ []) _ _ (search reads depth 20 fits 4000)
-          (fact (whole (negsuc 0)) (inverse_is (whole (pos 1) +Q v) (pos_nonzero past)) (search reads depth 20 fits 4000)
+          (fact (whole (negsuc 0)) (one_plus r.positive) (search reads depth 20 fits 4000)
           (order (le_of_lt r.positive) inn (search reads depth 20 fits 4000) no_fact)) tt;
       below = linear_le (inverse (whole (pos 1) +Q v) ∷ []) _ _ (search reads depth 20 fits 4000)
           (order zero_le_one inn (search reads depth 20 fits 4000) (order zero_le_one zero_le_one (search reads depth 20 fits 4000) no_fact)) tt;
