@@ -1,5 +1,6 @@
 pub mod Answers
 pub mod Cells
+pub mod Chains
 pub mod Conic
 pub mod Identity
 pub mod Meeting
@@ -9,4 +10,5 @@ pub mod Polynomial
 pub mod Powers
 pub mod Rounds
 pub mod Sag
+pub mod Scaling
 pub mod Window
