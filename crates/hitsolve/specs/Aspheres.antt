@@ -1,6 +1,7 @@
 pub mod Answers
 pub mod Cells
 pub mod Chains
+pub mod Close
 pub mod Conic
 pub mod Identity
 pub mod Meeting

@@ -2,7 +2,7 @@
 use Rattle.std.proofs.Common.{◌≡◌, ℕ, [], ◌∷◌, true, false, arith}
 use Rattle.std.proofs.lemmas.Bool.{cond_both}
 use Rattle.std.proofs.lemmas.Int.{ints}
-use Rattle.std.specs.Prelude.{ℤ, pos, int_lt}
+use Rattle.std.specs.Prelude.{ℤ, pos, int_lt, ◌<ℤ◌}
 use Rattle.fixdec.specs.Algebra.Inverse.{inverse}
 use Rattle.fixdec.specs.Algebra.Linear.{linear, linear_le, fact, order, no_fact, reads}
 use Rattle.fixdec.specs.Algebra.MemberLaws.{units_nn}
@@ -91,10 +91,16 @@ module _ {A : Type 0} (scale : ℕ) (o : Operations A) (member : A → Symbols �
       cond_both (int_lt (o.hull g).lo (pos 0)) (Lost Root) (Val g) (λ r. OnVal r (λ r. member r sy u × whole (pos 0) ≤Q u))
       (λ e. tt) (λ e. (h, not_below_zero scale (o.hull g) u (law.hull sy g u h) e))
 
-  pub if_above_zero-member : (g : A) (u : Frac) → member g sy u → OnVal (if_above_zero o g) (λ r. member r sy u × whole (pos 0) <Q u)
+  -- a member of what passes is above 0, and so is the least number there
+  pub record IsAbove (u : Frac) (g : A) : Type 0 where
+    pub holds : member g sy u
+    pub positive : whole (pos 0) <Q u
+    pub least : pos 0 <ℤ (o.hull g).lo
+
+  pub if_above_zero-member : (g : A) (u : Frac) → member g sy u → OnVal (if_above_zero o g) (IsAbove u)
   if_above_zero-member g u h =
-      cond_both (int_lt (pos 0) (o.hull g).lo) (Val g) (Lost Root) (λ r. OnVal r (λ r. member r sy u × whole (pos 0) <Q u))
-      (λ e. (h, above_zero scale (o.hull g) u (law.hull sy g u h) e)) (λ e. tt)
+      cond_both (int_lt (pos 0) (o.hull g).lo) (Val g) (Lost Root) (λ r. OnVal r (IsAbove u))
+      (λ e. record { holds = h; positive = above_zero scale (o.hull g) u (law.hull sy g u h) e; least = grind (arith, ints, e) }) (λ e. tt)
 
   module _ (eps : Frac) (e : ℤ) (covers : Covers scale eps e) (f : Asphere) (face : Prepared A) (hf : HoldsAsphere member sy f face) where
     pub mid_g_row-member : (F : A) (r : Frac) → member F sy (f.c *Q r) → OnVal (mid_g_row o scale face F) (λ g. member g sy (mid_g f r) × whole (pos 0) ≤Q mid_g f r)

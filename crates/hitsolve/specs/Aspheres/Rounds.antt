@@ -1,6 +1,6 @@
 -- Where a line meets an even asphere is a member of what a slope round answers on a window that holds it.
 use Rattle.std.proofs.Common.{ℕ, [], ◌∷◌}
-use Rattle.std.specs.Prelude.{ℤ, pos}
+use Rattle.std.specs.Prelude.{ℤ, pos, ◌<ℤ◌}
 use Rattle.fixdec.specs.Algebra.Inverse.{inverse, inverse_is}
 use Rattle.fixdec.specs.Algebra.Linear.{linear, linear_le, fact, order, no_fact, reads}
 use Rattle.fixdec.specs.Algebra.OrderLaws.{lt_of_lt_le, pos_nonzero, zero_le_one}
@@ -21,7 +21,7 @@ use Rattle.hitsolve.specs.Aspheres.Cells.{rho_up_to}
 use Rattle.hitsolve.specs.Aspheres.Conic.{w_row-member}
 use Rattle.hitsolve.specs.Aspheres.Identity.{mid_g, mid_sag, root_sum, quotient, sag_slope, rho_slope, slope, sag_miss, conic_miss, root_miss, conic_error, slope_identity}
 use Rattle.hitsolve.specs.Aspheres.Meeting.{Asphere, Meets, along, w_of, rho_at, u_at, over_power, HoldsAsphere, HoldsLine}
-use Rattle.hitsolve.specs.Aspheres.Middle.{mid_of, HoldsPoints, HoldsMidConic, HoldsMidSag, points_rows-member, middle_value-member, mid_conic_rows-member, mid_sag_rows-member, if_above_zero-member}
+use Rattle.hitsolve.specs.Aspheres.Middle.{mid_of, HoldsPoints, HoldsMidConic, HoldsMidSag, points_rows-member, middle_value-member, mid_conic_rows-member, mid_sag_rows-member, if_above_zero-member, IsAbove}
 use Rattle.hitsolve.specs.Aspheres.MidRoot.{IsMidRoot, one_plus, root_error}
 use Rattle.hitsolve.specs.Aspheres.Polynomial.{quotient_row-member}
 use Rattle.hitsolve.specs.Aspheres.Powers.{shift-member}
@@ -55,6 +55,7 @@ module _ {A : Type 0} (scale : ℕ) (o : Operations A) (member : A → Symbols �
     pub m : member r.m sy (root_sum f l z zc s v)
     pub g : member r.g sy (slope f l z zc s v)
     pub g_pos : whole (pos 0) <Q slope f l z zc s v
+    pub g_least : pos 0 <ℤ (o.hull r.g).lo
     pub root : IsMidRoot eps bound (mid_g f (rho_at l s)) v
 
   module _ (bound z zc : Frac) (meets : Meets eps f l z zc) (size : HasSize bound zc) where
@@ -87,7 +88,7 @@ module _ {A : Type 0} (scale : ℕ) (o : Operations A) (member : A → Symbols �
 
     slope_rows-member : (s v : Frac) (at : Points A) (w mid_w q0 : A) → HoldsPoints scale o member law sy l z s at → whole (pos 0) <Q v
         → member w sy (w_of f zc) → member mid_w sy v → member q0 sy (quotient f l z zc s v)
-        → OnVal (slope_rows o scale face line at w mid_w q0) (λ r. member r.m sy (root_sum f l z zc s v) × (member r.g sy (slope f l z zc s v) × whole (pos 0) <Q slope f l z zc s v))
+        → OnVal (slope_rows o scale face line at w mid_w q0) (λ r. member r.m sy (root_sum f l z zc s v) × IsAbove scale o member law sy (slope f l z zc s v) r.g)
     slope_rows-member s v at w mid_w q0 hp p hw hv hq =
         let B = sag_slope f l z zc s v in
         let T = rho_slope l z s in
@@ -97,7 +98,7 @@ module _ {A : Type 0} (scale : ℕ) (o : Operations A) (member : A → Symbols �
         OnVal-then (whole_row o scale (pos 1)) _ (λ x. member x sy (whole (pos 1))) _ (whole_member scale o member law sy (pos 1)) λ one h1.
         OnVal-then (o.times t b) _ (λ r. member r sy (T *Q B)) _ (law.times sy t b T B ht hb) λ tb htb.
         OnVal-then (o.minus one tb) _ (λ r. member r sy (slope f l z zc s v)) _ (law.minus sy one tb _ _ h1 htb) λ g hg.
-        OnVal-then (if_above_zero o g) _ (λ r. member r sy (slope f l z zc s v) × whole (pos 0) <Q slope f l z zc s v) _ (if_above_zero-member scale o member law sy g _ hg) λ k hk.
+        OnVal-then (if_above_zero o g) _ (IsAbove scale o member law sy (slope f l z zc s v)) _ (if_above_zero-member scale o member law sy g _ hg) λ k hk.
         (hm, hk)
 
     pub round_rows-member : (a : Ends) (v : Frac) → IsMember scale a z
@@ -118,9 +119,9 @@ module _ {A : Type 0} (scale : ℕ) (o : Operations A) (member : A → Symbols �
         (mid_sag_rows-member scale o member law sy eps e covers f face hf (rho_at l s) v mu conic.sag hmu hconic.sag) λ mid hmid.
         OnVal-then (quotient_row o scale u mid.values) _ (λ q. member q sy (quotient f l z zc s v)) _
         (quotient_row-member scale o member law sy u (u_at f l z) mid.values _ hu hmid.values) λ q0 hq0.
-        OnVal-then (slope_rows o scale face line at w conic.w q0) _ (λ r. member r.m sy (root_sum f l z zc s v) × (member r.g sy (slope f l z zc s v) × whole (pos 0) <Q slope f l z zc s v)) _
+        OnVal-then (slope_rows o scale face line at w conic.w q0) _ (λ r. member r.m sy (root_sum f l z zc s v) × IsAbove scale o member law sy (slope f l z zc s v) r.g) _
         (slope_rows-member s v at w conic.w q0 hat hconic.root.positive hw hconic.w hq0) λ k hk.
-        record { middle = middle_value-member scale o member law sy a; sag = hmid.sag; m = hk.0; g = hk.1.0; g_pos = hk.1.1; root = hconic.root }
+        record { middle = middle_value-member scale o member law sy a; sag = hmid.sag; m = hk.0; g = hk.1.holds; g_pos = hk.1.positive; g_least = hk.1.least; root = hconic.root }
 
     -- the residual of the sag's equation, and the two residuals of the conic's and of the root
     sag_small : (s v : Frac) → HasSize eps (sag_miss f l z zc s v)

@@ -28,7 +28,7 @@ use Rattle.hitsolve.specs.Aspheres.Meeting.{Asphere, Meets, polynomial, w_of, rh
 use Rattle.hitsolve.specs.Aspheres.Powers.{rho_nn, over_power_nn, over_power_le}
 
 -- a fraction is within its size
-size_holds : (x : Frac) → HasSize (size x) x
+pub size_holds : (x : Frac) → HasSize (size x) x
 unfolding neg_Q
 size_holds x = record {
   above = record { cross = scale_le x.num (pos (unsigned_abs x.num)) x.less (omega (arith, ints)) };
