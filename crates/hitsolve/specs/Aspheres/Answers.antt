@@ -9,7 +9,7 @@ use Rattle.fixdec.specs.Algebra.OrderLaws.{lt_not_le, lt_or_le}
 use Rattle.fixdec.specs.Algebra.Within.{HasSize, within_nn}
 use Rattle.fixdec.specs.Decimal.{ten_power}
 use Rattle.fixdec.specs.Ends.{Ends}
-use Rattle.fixdec.specs.Frac.{Frac, ◌≤Q◌, ◌<Q◌, ◌+Q◌, ◌*Q◌, size, whole}
+use Rattle.fixdec.specs.Frac.{Frac, ◌≤Q◌, ◌<Q◌, whole}
 use Rattle.fixdec.specs.Member.{IsMember, Symbols}
 use Rattle.fixdec.specs.Operations.{Operations, IsLawful}
 use Rattle.fixdec.specs.Steps.{OnVal, OnVal-then}
@@ -28,7 +28,7 @@ use Rattle.hitsolve.specs.Aspheres.Meeting.{Asphere, Meets, rho_at, HoldsAll, Ho
 use Rattle.hitsolve.specs.Aspheres.Middle.{mid_of}
 use Rattle.hitsolve.specs.Aspheres.MidRoot.{IsMidRoot, mid_root}
 use Rattle.hitsolve.specs.Aspheres.Rounds.{next_rows-member}
-use Rattle.hitsolve.specs.Aspheres.Window.{conic_sag_size, window_row-member}
+use Rattle.hitsolve.specs.Aspheres.Window.{conic_sag_size, sag_bound, window_row-member}
 
 -- a fraction near the root, where there is a root
 pub root_if : (eps bound g : Frac) → whole (pos 0) <Q eps → whole (pos 0) ≤Q bound → (v : Frac) × (whole (pos 0) ≤Q g → IsMidRoot eps bound g v)
@@ -73,14 +73,11 @@ module _ {A : Type 0} (scale : ℕ) (o : Operations A) (member : A → Symbols �
       OnVal-then (pruned scale F Z L e a) _ (λ b. IsMember scale b z) _ (pruned-member scale sy eps e covers f l z zc meets F Z L hulls_hold hz lines_hold a ha) λ b hb.
       pruned-member scale sy eps e covers f l z zc meets F Z L hulls_hold hz lines_hold b hb
 
-  abbrev sag_bound : Frac
-  sag_bound = size f.c *Q f.zone2 +Q eps
-
   round-member : (a : Ends) → IsMember scale a z → OnVal (next_rows o scale face line e a) (λ x. member x sy z)
   round-member a h =
-      let within : HasSize sag_bound zc = conic_sag_size eps f l z zc meets unit in
-      let r = root_if eps sag_bound (mid_g f (rho_at l (mid_of scale a))) some (within_nn within) in
-      next_rows-member scale o member law sy eps e covers f face hf hz l line hl sag_bound z zc meets within a r.0 h r.1
+      let within : HasSize (sag_bound eps f) zc = conic_sag_size eps f l z zc meets unit in
+      let r = root_if eps (sag_bound eps f) (mid_g f (rho_at l (mid_of scale a))) some (within_nn within) in
+      next_rows-member scale o member law sy eps e covers f face hf hz l line hl (sag_bound eps f) z zc meets within a r.0 h r.1
 
   narrowed-member : (a : Ends) (r : Step A) → IsMember scale a z → OnVal r (λ x. member x sy z) → OnVal (narrowed o scale a r) (λ b. IsMember scale b z)
   narrowed-member a (Val x) h k = common-member scale (o.hull x) a z (law.hull sy x z k) h

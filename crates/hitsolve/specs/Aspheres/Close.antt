@@ -30,7 +30,7 @@ crossing_distance eps s g h m =
 inverse_of : {a : Frac} → whole (pos 0) <Q a → a *Q inverse a ≈ whole (pos 1)
 inverse_of {a} p = inverse_is a (pos_nonzero p)
 
-inverse_le : (a b : Frac) → whole (pos 0) <Q a → a ≤Q b → inverse b ≤Q inverse a
+pub inverse_le : (a b : Frac) → whole (pos 0) <Q a → a ≤Q b → inverse b ≤Q inverse a
 inverse_le a b p h =
     let q = lt_of_lt_le p h in
     linear_le (a ∷ b ∷ inverse a ∷ inverse b ∷ []) _ _ (search reads depth 20 fits 4000)
@@ -38,7 +38,7 @@ inverse_le a b p h =
     (order (mul_nn (le_of_lt (inverse_pos a p)) (le_of_lt (inverse_pos b q))) h (search reads depth 20 fits 4000) no_fact))) tt
 
 -- a number that isn't negative has its own size
-own_size : {p x : Frac} → whole (pos 0) ≤Q x → x ≤Q p → HasSize p x
+pub own_size : {p x : Frac} → whole (pos 0) ≤Q x → x ≤Q p → HasSize p x
 own_size {p} {x} n h = record {
   above = h;
   below = linear_le (p ∷ x ∷ []) _ _ (search reads depth 16)

@@ -59,10 +59,10 @@ module _ {A : Type 0} (scale : ℕ) (o : Operations A) (member : A → Symbols �
     pub root : IsMidRoot eps bound (mid_g f (rho_at l s)) v
 
   module _ (bound z zc : Frac) (meets : Meets eps f l z zc) (size : HasSize bound zc) where
-    m_pos : (s v : Frac) → whole (pos 0) <Q v → whole (pos 0) <Q root_sum f l z zc s v
+    pub m_pos : (s v : Frac) → whole (pos 0) <Q v → whole (pos 0) <Q root_sum f l z zc s v
     m_pos s v p = sum_pos (w_of f zc) v meets.near_vertex p
 
-    m_inverse : (s v : Frac) → whole (pos 0) <Q v → root_sum f l z zc s v *Q inverse (root_sum f l z zc s v) ≈ whole (pos 1)
+    pub m_inverse : (s v : Frac) → whole (pos 0) <Q v → root_sum f l z zc s v *Q inverse (root_sum f l z zc s v) ≈ whole (pos 1)
     m_inverse s v p = inverse_is (root_sum f l z zc s v) (pos_nonzero (m_pos s v p))
 
     row_T-member : (s : Frac) (at : Points A) → HoldsPoints scale o member law sy l z s at → OnVal (row_T o line at) (λ t. member t sy (rho_slope l z s))
@@ -124,10 +124,10 @@ module _ {A : Type 0} (scale : ℕ) (o : Operations A) (member : A → Symbols �
         record { middle = middle_value-member scale o member law sy a; sag = hmid.sag; m = hk.0; g = hk.1.holds; g_pos = hk.1.positive; g_least = hk.1.least; root = hconic.root }
 
     -- the residual of the sag's equation, and the two residuals of the conic's and of the root
-    sag_small : (s v : Frac) → HasSize eps (sag_miss f l z zc s v)
+    pub sag_small : (s v : Frac) → HasSize eps (sag_miss f l z zc s v)
     sag_small s v = within_diff eps z _ meets.sag
 
-    conic_small : HasSize eps (conic_miss f (rho_at l z) zc)
+    pub conic_small : HasSize eps (conic_miss f (rho_at l z) zc)
     conic_small = within_same (linear (f.c ∷ f.kappa ∷ zc ∷ rho_at l z ∷ []) _ _ (search reads depth 20 fits 4000) no_fact tt) (within_neg (within_diff eps _ _ meets.conic))
 
     pub next_row-member : (s v : Frac) (r : Round A) → HoldsRound bound z zc s v r → OnVal (next_row o scale r e) (λ x. member x sy z)

@@ -86,6 +86,10 @@ shrunk p x w n h = record { above = up (le_cases (whole (pos 0)) x); below = dow
     down (inr g) = linear_le (p ∷ x ∷ w ∷ []) _ _ (search reads depth 16) (order zero_le_one h.below (search reads depth 16) (order n g (search reads depth 16) no_fact)) tt
 
 -- ---- the bound
+-- what the sag of the conic is at most: |c| zone^2 and the residual
+abbrev pub sag_bound : Frac → Asphere → Frac
+sag_bound eps f = size f.c *Q f.zone2 +Q eps
+
 module _ (eps : Frac) (f : Asphere) (l : Line Frac) (z zc : Frac) (m : Meets eps f l z zc) (unit : f.zone2 ≤Q ten_power f.power) where
   abbrev rho : Frac
   rho = rho_at l z
@@ -104,7 +108,7 @@ module _ (eps : Frac) (f : Asphere) (l : Line Frac) (z zc : Frac) (m : Meets eps
       zero_le_two = linear_le [] _ _ (search reads depth 16) (order zero_le_one zero_le_one (search reads depth 16) (order zero_le_one zero_le_one (search reads depth 16) no_fact)) tt
 
   -- the conic's sag is at most |c| rho and the residual
-  pub conic_sag_size : HasSize (size f.c *Q f.zone2 +Q eps) zc
+  pub conic_sag_size : HasSize (sag_bound eps f) zc
   conic_sag_size =
       let d = double_sag f.c f.kappa zc in
       let near = within_diff eps d (f.c *Q rho) (near_double_sag eps f.c f.kappa rho zc m.conic) in
