@@ -1,1 +1,2 @@
 pub mod Aspheres
+pub mod Narrowing
