@@ -14,3 +14,4 @@ pub mod Rounds
 pub mod Sag
 pub mod Scaling
 pub mod Window
+pub mod Zones
