@@ -2,6 +2,7 @@ pub mod Answers
 pub mod Cells
 pub mod Chains
 pub mod Close
+pub mod CloseChains
 pub mod CloseCrossings
 pub mod Conic
 pub mod Identity

@@ -31,7 +31,7 @@ use Rattle.hitsolve.specs.Aspheres.Meeting.{Asphere, Meets, along, rho_at, u_at,
 use Rattle.hitsolve.specs.Aspheres.Scaling.{scaled_terms}
 
 -- the residual is above 0
-eps_pos : (r : ℕ) → whole (pos 0) <Q tenth_power r
+pub eps_pos : (r : ℕ) → whole (pos 0) <Q tenth_power r
 unfolding whole
 eps_pos r = record { cross = omega (arith, ints) }
 
