@@ -1,2 +1,3 @@
 pub mod Aspheres
 pub mod Narrowing
+pub mod StandardCrossings

@@ -1,10 +1,15 @@
 -- Two chains that cross an even asphere on one line are close.
 use Rattle.std.proofs.Common.{◌≡◌, ℕ, suc, subst, false}
-use Rattle.std.specs.Prelude.{ℤ, pos}
+use Rattle.std.proofs.lemmas.Bool.{cond_both}
+use Rattle.std.specs.Prelude.{ℤ, pos, ◌*ℤ◌, if◌then◌else◌}
 use Rattle.fixdec.specs.Algebra.Within.{HasSize}
 use Rattle.fixdec.specs.Ends.{Ends}
 use Rattle.fixdec.specs.Frac.{Frac, ◌-Q◌}
-use Rattle.fixdec.specs.Interval.{holds_zero, iv_size}
+use Rattle.fixdec.specs.Form.{lin_hull, lin_over, linear_operations, quotient_about}
+use Rattle.fixdec.specs.IntervalOperations.{operations}
+use Rattle.fixdec.specs.Rounding.{floor}
+use Rattle.fixdec.specs.declared.step.Why.TheVariants.{Range, Zero}
+use Rattle.fixdec.specs.Interval.{ends, fits_cap, unit, least_quotient, greatest_quotient, iv_over, holds_zero, iv_size}
 use Rattle.fixdec.specs.Member.{Symbols}
 use Rattle.fixdec.specs.Operations.{Operations, IsLawful}
 use Rattle.fixdec.specs.Steps.{◌>>=◌}
@@ -52,6 +57,20 @@ always (Lost why) P h = tt
 -- a quotient is a value only where the divisor's hull doesn't hold 0
 abbrev pub Divides : {A : Type 0} → Operations A → Type 0
 Divides {A} o = (a b : A) → IfVal (o.over a b) (λ r. holds_zero (o.hull b) ≡ false)
+
+-- so it is in intervals, and in linear forms
+pub intervals_divide : (scale : ℕ) → Divides (operations scale)
+unfolding operations iv_over
+intervals_divide scale a b =
+    cond_both (holds_zero b) (Lost Zero) (ends (least_quotient scale a b) (greatest_quotient scale a b)) (λ s. IfVal s (λ r. holds_zero b ≡ false))
+    (λ e. tt) (λ e. always _ _ e)
+
+pub forms_divide : (scale : ℕ) → Divides (linear_operations scale)
+unfolding lin_over
+forms_divide scale a b =
+    let q = floor (a.centre *ℤ unit scale) b.centre in
+    cond_both (holds_zero (lin_hull b)) (Lost Zero) (if fits_cap q then quotient_about scale q a b else Lost Range) (λ s. IfVal s (λ r. holds_zero (lin_hull b) ≡ false))
+    (λ e. tt) (λ e. always _ _ e)
 
 module _ {A : Type 0} (scale : ℕ) (o : Operations A) (divides : Divides o) (face : Prepared A) (line : Line A) (e : ℤ) where
   abbrev Apart : A → Type 0
