@@ -1,3 +1,4 @@
 pub mod Aspheres
 pub mod Narrowing
+pub mod StandardChains
 pub mod StandardCrossings

@@ -12,7 +12,7 @@ use Rattle.fixdec.specs.Steps.{OnVal, OnVal-then}
 use Rattle.fixdec.specs.declared.step.Step.TheVariants.{Val}
 use Rattle.lensmodel.specs.Equations.Residual.{IsWithin}
 use Rattle.lensmodel.specs.Rows.Constants.{whole_row}
-use Rattle.lensmodel.specs.Rows.Crossing.{Line, Root, rho_row, row_A, row_H, row_F, row_R, root_rows}
+use Rattle.lensmodel.specs.Rows.Crossing.{Line, Root, rho_row, row_A, row_H, row_F, row_R, root_rows, meet_standard_rows}
 use Rattle.lensmodel.specs.Rows.Laws.{Covers, whole_member, widened}
 use Rattle.lensmodel.specs.Rows.Preparation.{Prepared}
 use Rattle.hitsolve.specs.Aspheres.Cells.{rho_row-member}
@@ -112,6 +112,16 @@ module _ {A : Type 0} (scale : ℕ) (o : Operations A) (member : A → Symbols �
           OnVal-then (o.times a f) _ (λ r. member r sy (quadratic c k l *Q constant_at c k l z)) _ (law.times sy a f _ _ ha hf) λ t k2.
           OnVal-then (o.minus h2 t) _ (λ r. member r sy (H *Q H -Q quadratic c k l *Q constant_at c k l z)) _ (law.minus sy h2 t _ _ k1 k2) λ d k3.
           law.root sy d (root_at c k l z) (root_nn c k l eps z m) (law.same sy d _ _ (root_square c k l z) k3)
+
+  -- and z itself is a member of the answer
+  pub meet_standard_rows-member : (z : Frac) → MeetsConic eps c k l z → OnVal (meet_standard_rows o scale face line e) (λ r. member r sy z)
+  unfolding meet_standard_rows
+  meet_standard_rows-member z m =
+      let H = half_linear c k l in
+      let R = root_at c k l z in
+      OnVal-then (root_rows o scale face line e) _ (HoldsRoot z) _ (root_rows-member z m) λ at hat.
+      OnVal-then (o.plus at.h at.r) _ (λ s. member s sy (H +Q R)) _ (law.plus sy at.h at.r H R hat.h hat.r) λ s hs.
+      law.over sy at.f s _ _ z hat.f hs (linear (c ∷ k ∷ z ∷ l.x0 ∷ l.y0 ∷ l.p ∷ l.q ∷ []) _ _ (search reads depth 24 fits 20000) no_fact tt)
 
   -- two crossings are at most the residual over the least root apart
   pub standard_close : (r : Root A) → root_rows o scale face line e ≡ Val r → pos 0 <ℤ (o.hull r.r).lo → (z w : Frac) → MeetsConic eps c k l z → MeetsConic eps c k l w
