@@ -1,3 +1,4 @@
+pub mod Arrivals
 pub mod Aspheres
 pub mod Narrowing
 pub mod StandardChains
