@@ -1,5 +1,6 @@
 pub mod Arrivals
 pub mod Aspheres
+pub mod Hits
 pub mod Narrowing
 pub mod StandardChains
 pub mod StandardCrossings

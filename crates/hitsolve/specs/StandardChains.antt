@@ -31,7 +31,7 @@ pub record HasSlopes (c : Chain) (j : ℕ) (l : Line Frac) : Type 0 where
   pub p : l.p *Q c.n j ≈ c.l j
   pub q : l.q *Q c.n j ≈ c.m j
 
-sag_is : (k : SurfaceKind) (eps : Frac) (f : Surface) (z zc rho : Frac) → k ≡ Standard → IsSag k eps f z zc rho → z ≈ zc
+pub sag_is : (k : SurfaceKind) (eps : Frac) (f : Surface) (z zc rho : Frac) → k ≡ Standard → IsSag k eps f z zc rho → z ≈ zc
 sag_is k eps f z zc rho e h = subst (λ (k : SurfaceKind). IsSag k eps f z zc rho) e h
 
 side_is : (k : SurfaceKind) (s : Setup) (c : Chain) (j : ℕ) → k ≡ Standard → IsOnSide k s c j → IsOnSide Standard s c j
