@@ -4,3 +4,4 @@ pub mod Hits
 pub mod Narrowing
 pub mod StandardChains
 pub mod StandardCrossings
+pub mod Values

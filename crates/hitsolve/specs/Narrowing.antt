@@ -7,3 +7,4 @@ pub mod Quotients
 pub mod Roots
 pub mod Sags
 pub mod Sums
+pub mod Windows

@@ -12,9 +12,7 @@ use Rattle.fixdec.specs.declared.step.Why.TheVariants.{Range, Zero}
 use Rattle.fixdec.specs.Interval.{ends, fits_cap, unit, least_quotient, greatest_quotient, iv_over, holds_zero, iv_size}
 use Rattle.fixdec.specs.Member.{Symbols}
 use Rattle.fixdec.specs.Operations.{Operations, IsLawful}
-use Rattle.fixdec.specs.Steps.{◌>>=◌}
-use Rattle.fixdec.specs.declared.step.Step.{Step}
-use Rattle.fixdec.specs.declared.step.Step.TheVariants.{Val, Empty, Lost}
+use Rattle.fixdec.specs.declared.step.Step.TheVariants.{Val, Lost}
 use Rattle.lensmodel.specs.Claims.Enclosure.{CoversResidual, HoldsPrepared}
 use Rattle.lensmodel.specs.Equations.Chain.{Chain}
 use Rattle.lensmodel.specs.Equations.Crossing.{Crosses}
@@ -30,30 +28,9 @@ use Rattle.hitsolve.specs.Aspheres.Chains.{ZoneFits, IsOnLine, asphere_of, cross
 use Rattle.hitsolve.specs.Aspheres.Close.{crossing_distance, at_scale}
 use Rattle.hitsolve.specs.Aspheres.CloseCrossings.{crossings_close}
 use Rattle.hitsolve.specs.Aspheres.Meeting.{Meets, HoldsLine}
+use Rattle.hitsolve.specs.Values.{IfVal, if_val, if_val-then, if_later, always}
 
 -- ---- what divided a value holds no 0
--- P of the value, if there is one
-abbrev pub IfVal : {A : Type 0} → Step A → (A → Type 0) → Type 0
-IfVal (Val a) P = P a
-IfVal Empty P = Unit {0}
-IfVal (Lost why) P = Unit {0}
-
-if_val-then : {A B : Type 0} (r : Step A) (f : A → Step B) (Q : A → Type 0) (P : B → Type 0) → IfVal r Q → ((x : A) → Q x → IfVal (f x) P) → IfVal (r >>= f) P
-if_val-then (Val a) f Q P h k = k a h
-if_val-then Empty f Q P h k = tt
-if_val-then (Lost why) f Q P h k = tt
-
--- whatever the first step gives
-if_later : {A B : Type 0} (r : Step A) (f : A → Step B) (P : B → Type 0) → ((x : A) → IfVal (f x) P) → IfVal (r >>= f) P
-if_later (Val a) f P k = k a
-if_later Empty f P k = tt
-if_later (Lost why) f P k = tt
-
-always : {A : Type 0} (r : Step A) (P : Type 0) → P → IfVal r (λ a. P)
-always (Val a) P h = h
-always Empty P h = tt
-always (Lost why) P h = tt
-
 -- a quotient is a value only where the divisor's hull doesn't hold 0
 abbrev pub Divides : {A : Type 0} → Operations A → Type 0
 Divides {A} o = (a b : A) → IfVal (o.over a b) (λ r. holds_zero (o.hull b) ≡ false)
@@ -103,10 +80,6 @@ module _ {A : Type 0} (scale : ℕ) (o : Operations A) (divides : Divides o) (fa
       if_later (mid_sag_rows o scale face mid_u conic.sag) _ _ λ mid.
       if_later (quotient_row o scale u mid.values) _ _ λ q0.
       if_val-then (slope_rows o scale face line at w conic.w q0) _ (λ r. Apart r.m) _ (slope_apart at w conic.w q0) λ slope h. h
-
--- what is said of a value, where it is there
-pub if_val : {A : Type 0} {r : Step A} {x : A} (P : A → Type 0) → r ≡ Val x → IfVal r P → P x
-if_val P e h = subst (λ r. IfVal r P) e h
 
 -- ---- two chains
 module _ {A : Type 0} (scale : ℕ) (o : Operations A) (member : A → Symbols → Frac → Type 0) (law : IsLawful scale o member) (divides : Divides o) where

@@ -17,7 +17,7 @@ abbrev pub block : Ends → ℕ → ℕ → Ends
 block a i n = record { lo = cut a i; hi = cut a (i + n) }
 
 module _ (a : Ends) (order : a.lo ≤ℤ a.hi) where
-  cut_mono : (i j : ℕ) → i ≤ j → cut a i ≤ℤ cut a j
+  pub cut_mono : (i j : ℕ) → i ≤ j → cut a i ≤ℤ cut a j
   cut_mono i j h =
       let f = floor_mono ((a.hi -ℤ a.lo) *ℤ pos i) ((a.hi -ℤ a.lo) *ℤ pos j) (pos 64) (omega (arith, ints)) (times (a.hi -ℤ a.lo) (omega (arith, ints)) i j h) in
       omega (arith, ints)
