@@ -2,7 +2,6 @@
 
 ghost use Rattle.std.specs.Prelude.{◌≡◌, pos, ◌≤◌, ◌≤ℤ◌};
 ghost use Rattle.fixdec.specs.Ends.{InCap};
-ghost use Rattle.lensmodel.specs.Rows.Constants as constants;
 ghost use Rattle.lensmodel.specs.Equations.Dispersion.{IsKnown};
 ghost use Rattle.lensmodel.specs.Rows.Index as rows;
 ghost use Rattle.sagform.specs.IndexLaws.{EnclosesIndex};
@@ -12,7 +11,6 @@ use enclose::arith::Arith;
 use fixdec::dec::Dec;
 use fixdec::span::Span;
 use fixdec::step::Step;
-use fixdec::val;
 use lensmodel::glass::{Glass, Medium};
 
 /// Schott's formula at the square `v` of the wavelength.

@@ -2,8 +2,7 @@
 //! that were prepared.
 #![tactic(auto)]
 
-/// The value of a step, or the calling function's answer where it has none.
-#[macro_export]
+/// The value of a step; a step without one is the answer of the function that asks.
 macro_rules! val {
     ($e:expr) => {
         match $e {

@@ -1,0 +1,4 @@
+//! Rays through a whole lens.
+#![tactic(auto)]
+
+pub mod start;
