@@ -12,7 +12,7 @@ ghost use Rattle.lensmodel.specs.declared.setup.Setup.{Setup};
 ghost use Rattle.lensmodel.specs.declared.surface.SurfaceKind.TheVariants.{Standard};
 ghost use Rattle.hitsolve.specs.Caps as caps;
 
-use crate::line::{Arrival, Line, along, arrival, path_to, rho_at};
+use crate::line::{Arrival, Line, along, arrive, path_to, rho_at};
 use crate::standard;
 use enclose::arith::Arith;
 use fixdec::span::{CAP, Span};
@@ -138,7 +138,7 @@ fn hit_rows<T: Arith>(f: &Face<T>, r: &Ray<T>, e: i128) -> Step<Hit<T>>
     ensures side { caps.IsInCap (T.ops.hull r.now.n) }
 {
     let _side = r.n.hull();
-    crossed(f, r, arrival(f, r, e), e)
+    crossed(f, r, arrive(f, r, e), e)
 }
 
 /// Where a ray meets a standard surface. The residual is `e` units, `e` from 0 to the cap. Empty only

@@ -71,7 +71,7 @@ fn foot<T: Arith>(x: T, p: T, s: T, e: i128) -> Step<T>
 
 /// The line on which a ray arrives.
 #[tactic(auto, unfolding(lensmodel::specs::Rows::Crossing::arrival_rows))]
-pub(crate) fn arrival<T: Arith>(f: &Face<T>, r: &Ray<T>, e: i128) -> Step<Arrival<T>>
+pub(crate) fn arrive<T: Arith>(f: &Face<T>, r: &Ray<T>, e: i128) -> Step<Arrival<T>>
     requires scale { T.SCALE ≤ 15 }
     requires low { pos 0 ≤ℤ e }
     requires high { InCap e }

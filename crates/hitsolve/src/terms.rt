@@ -27,7 +27,7 @@ impl<T> Model for Terms<T> {
 }
 
 /// The coefficients of a prepared surface.
-pub(crate) fn terms<T: Arith>(f: &Face<T>) -> Terms<T>
+pub(crate) fn even_terms<T: Arith>(f: &Face<T>) -> Terms<T>
     ensures { result ≡ f.now.b }
 {
     Terms {

@@ -1,6 +1,6 @@
 -- What a well-formed setup gives to the preparation of a surface.
 use Rattle.std.proofs.Common.{◌≡◌, ℕ, zero, suc, ◌-◌, ◌<◌, ◌≤◌, Bool, true, false, List, [], ◌∷◌, ◌++◌, length, get_or, refl, arith}
-use Rattle.std.specs.Prelude.{Option, Some, None, is_none, not, ◌&&◌, nat_eq, nat_lt, if◌then◌else◌}
+use Rattle.std.specs.Prelude.{Option, Some, None, is_none, not, ◌&&◌, nat_eq, nat_lt, map, if◌then◌else◌}
 use Rattle.std.proofs.lemmas.List.Elements.{All-get_or}
 use Rattle.fixdec.specs.Decimal.{Decimal}
 use Rattle.fixdec.specs.Zone.{zone_span}
@@ -9,10 +9,10 @@ use Rattle.lensmodel.specs.Files.Causes.{fault_if, first_fault}
 use Rattle.lensmodel.specs.Setup.Media.{medium_at}
 use Rattle.lensmodel.specs.Setup.Values.{surface_at, image, owner, reflects, plane}
 use Rattle.lensmodel.specs.Setup.WellFormed.{IsWellFormed, IsWrittenSurface}
-use Rattle.lensmodel.specs.Setup.WholeFaults.{whole_fault, whole_faults, faults_from, surface_faults, asphere_faults}
-use Rattle.lensmodel.specs.Setup.Zones.{zone_if}
+use Rattle.lensmodel.specs.Setup.WholeFaults.{whole_fault, whole_faults, faults_from, surface_faults, asphere_faults, is_great}
+use Rattle.lensmodel.specs.Setup.Zones.{zone_if, scaled_coefficient}
 use Rattle.lensmodel.specs.declared.fault.ZmxFault.{ZmxFault}
-use Rattle.lensmodel.specs.declared.fault.ZmxFault.TheVariants.{TooFewSurfaces, StopCount, MirrorAtObject, InnerInfinity}
+use Rattle.lensmodel.specs.declared.fault.ZmxFault.TheVariants.{TooFewSurfaces, StopCount, MirrorAtObject, InnerInfinity, NoZone, Coefficient}
 use Rattle.lensmodel.specs.declared.glass.Medium.TheVariants.{Air}
 use Rattle.lensmodel.specs.declared.setup.Setup.{Setup}
 use Rattle.lensmodel.specs.declared.surface.Surface.{Surface}
@@ -53,9 +53,13 @@ zoned_by Standard semi f xs h = tt
 zoned_by EvenAsph None f xs h = cc
 zoned_by EvenAsph (Some d) f xs h = not_faulty (is_none (zone_span d)) f xs h
 
+-- coefficients that are too great
+abbrev coefficient_faults : ℕ → Surface → List (Option ZmxFault)
+coefficient_faults j f = map (λ i. fault_if (is_great (scaled_coefficient f i)) (Coefficient j i)) (1 ∷ 2 ∷ 3 ∷ 4 ∷ 5 ∷ 6 ∷ 7 ∷ 8 ∷ [])
+
 zoned_kind : (kind : SurfaceKind) (j : ℕ) (f : Surface) → first_fault (asphere_faults kind j f) ≡ None → IsZonedBy kind f.semi
 zoned_kind Standard j f h = tt
-zoned_kind EvenAsph j f h = zoned_by EvenAsph f.semi _ _ h
+zoned_kind EvenAsph j f h = zoned_by EvenAsph f.semi (NoZone j) (coefficient_faults j f) h
 
 -- an infinite thickness before the image
 abbrev thickness_fault : ℕ → ℕ → Surface → Option ZmxFault
@@ -71,8 +75,12 @@ zoned_at image j (f ∷ fs) (suc k) l h =
 zoned_in : (fs : List Surface) (stop j : ℕ) → suc j < length fs → first_fault (whole_faults fs stop) ≡ None → IsZoned (get_or fs (suc j) plane)
 zoned_in [] stop j l h = absurd (omega arith)
 zoned_in (f ∷ fs) stop j l h =
-    zoned_at (length (f ∷ fs) - 1) 1 fs j (omega arith) (no_fault_left (fault_if (f.mirror) MirrorAtObject) (faults_from (length (f ∷ fs) - 1) 1 fs)
-    (no_fault_left (fault_if (not (nat_lt stop (length (f ∷ fs)))) StopCount) _ (no_fault_left (fault_if (nat_lt (length (f ∷ fs)) 3) TooFewSurfaces) _ h)))
+    let few : Option ZmxFault = fault_if (nat_lt (length (f ∷ fs)) 3) TooFewSurfaces in
+    let count : Option ZmxFault = fault_if (not (nat_lt stop (length (f ∷ fs)))) StopCount in
+    let mirror : Option ZmxFault = fault_if f.mirror MirrorAtObject in
+    let rest : List (Option ZmxFault) = faults_from (length (f ∷ fs) - 1) 1 fs in
+    zoned_at (length (f ∷ fs) - 1) 1 fs j (omega arith)
+    (no_fault_left mirror rest (no_fault_left count (mirror ∷ rest) (no_fault_left few (count ∷ mirror ∷ rest) h)))
 
 -- surface j + 1 of a well-formed setup, if it is an even asphere, has a zone
 pub well_zoned : (s : Setup) (j : ℕ) → IsWellFormed s → suc j < length s.lens.surfaces.items → IsZoned (surface_at s (suc j))
