@@ -10,6 +10,7 @@ use Rattle.lensmodel.specs.Rows.Constants.{whole_row}
 use Rattle.lensmodel.specs.Rows.Crossing.{Arrival, Met, arrival_rows, along_row, rho_row, path_rows}
 use Rattle.lensmodel.specs.Rows.Hit.{meet_rows, point_rows}
 use Rattle.lensmodel.specs.Rows.Preparation.{Prepared}
+use Rattle.lensmodel.specs.Rows.Spans.{positive}
 use Rattle.lensmodel.specs.Rows.Start.{Incoming}
 use Rattle.lensmodel.specs.declared.surface.SurfaceKind.TheVariants.{Standard}
 use Rattle.hitsolve.specs.Hits.{ClipsWithinCap}
@@ -23,6 +24,11 @@ module _ {A : Type 0} (o : Operations A) where
   -- so do those of a value, where there is one
   abbrev pub IsCapped : Step A → Type 0
   IsCapped r = IfVal r (λ v. InCap (o.hull v).hi)
+
+  -- a value clipped to the numbers that aren't negative
+  abbrev pub clipped_row : Step A → Step A
+  clipped_row v = do
+    o.clip (← v) positive
 
 module _ {A : Type 0} (o : Operations A) (scale : ℕ) where
   -- what w of a standard surface is clipped from: 1 - (ck*zj)

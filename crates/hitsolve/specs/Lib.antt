@@ -1,7 +1,7 @@
 pub mod Arrivals
 pub mod Aspheres
 pub mod Caps
-pub mod CellValues
+pub mod Encloses
 pub mod Hits
 pub mod Narrowing
 pub mod StandardChains

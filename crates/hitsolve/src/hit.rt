@@ -2,11 +2,9 @@
 
 ghost use Rattle.std.specs.Prelude.{◌≡◌, ℕ, ℤ, pos, ◌≤◌, ◌≤ℤ◌};
 ghost use Rattle.fixdec.specs.Ends.{InCap};
-ghost use Rattle.fixdec.specs.Steps.{◌>>=◌};
 ghost use Rattle.lensmodel.specs.Claims.Enclosure.{CoversResidual, EnclosesCrossing};
 ghost use Rattle.lensmodel.specs.Rows.Crossing as rows;
 ghost use Rattle.lensmodel.specs.Rows.Hit as hits;
-ghost use Rattle.lensmodel.specs.Rows.Spans.{positive};
 ghost use Rattle.lensmodel.specs.Setup.WellFormed.{IsWellFormed};
 ghost use Rattle.lensmodel.specs.declared.setup.Setup.{Setup};
 ghost use Rattle.lensmodel.specs.declared.surface.SurfaceKind.TheVariants.{Standard};
@@ -34,7 +32,7 @@ fn unclipped_w<T: Arith>(f: &Face<T>, z: T) -> Step<T>
 /// A value clipped to the numbers that aren't negative.
 fn clipped<T: Arith>(v: Step<T>) -> Step<T>
     requires { T.SCALE ≤ 15 }
-    ensures value { result ≡ (v >>= λ v. T.ops.clip v positive) }
+    ensures value { result ≡ caps.clipped_row T.ops v }
     ensures cap { caps.IsCapped T.ops v }
 {
     let v = val!(v);
@@ -52,18 +50,33 @@ fn standard_w<T: Arith>(f: &Face<T>, z: T) -> Step<T>
 }
 
 /// The point on a standard surface at `z`, once w is known.
-fn standard_rest<T: Arith>(f: &Face<T>, r: &Ray<T>, a: Arrival<T>, z: T, w: Step<T>, e: i128) -> Step<Hit<T>>
+fn standard_rest<T: Arith>(
+    f: &Face<T>,
+    r: &Ray<T>,
+    a: Arrival<T>,
+    z: T,
+    w: Step<T>,
+    e: i128,
+) -> Step<Hit<T>>
     requires scale { T.SCALE ≤ 15 }
     requires low { pos 0 ≤ℤ e }
     requires high { InCap e }
     ensures { result ≡ caps.standard_point_rows T.ops T.SCALE f.now r.now a z w e }
 {
+    let line = a.line;
     let w = val!(w);
-    let x = val!(along(a.line.x0, a.line.p, z));
-    let y = val!(along(a.line.y0, a.line.q, z));
+    let x = val!(along(line.x0, line.p, z));
+    let y = val!(along(line.y0, line.q, z));
     let rho = val!(rho_at(x, y));
     let path = val!(path_to(f, r, a, z, e));
-    Step::Val(Hit { x, y, z, rho, w, path })
+    Step::Val(Hit {
+        x,
+        y,
+        z,
+        rho,
+        w,
+        path,
+    })
 }
 
 /// The point on a standard surface at `z`.
@@ -99,7 +112,8 @@ fn crossed<T: Arith>(f: &Face<T>, r: &Ray<T>, a: Step<Arrival<T>>, e: i128) -> S
     ensures cap { caps.CapsCrossed T.ops T.SCALE f.now e a }
 {
     let a = val!(a);
-    met(f, r, a, meet(f, a.line, e), e)
+    let line = a.line;
+    met(f, r, a, meet(f, line, e), e)
 }
 
 /// Where a line meets a standard surface.

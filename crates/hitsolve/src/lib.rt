@@ -1,8 +1,6 @@
 //! Where rays meet the surfaces of a lens.
 #![tactic(auto)]
 
-mod cells;
-mod hit;
+pub mod hit;
 mod line;
 mod standard;
-mod terms;

@@ -83,7 +83,11 @@ pub(crate) fn arrive<T: Arith>(f: &Face<T>, r: &Ray<T>, e: i128) -> Step<Arrival
     let s = val!(f.d().minus(r.z));
     let x0 = val!(foot(r.x, p, s, e));
     let y0 = val!(foot(r.y, q, s, e));
-    Step::Val(Arrival { n, s, line: Line { x0, y0, p, q } })
+    Step::Val(Arrival {
+        n,
+        s,
+        line: Line { x0, y0, p, q },
+    })
 }
 
 /// The point of a line at `z`: `x = x0 + (p*z)`.
