@@ -4,6 +4,7 @@ use Rattle.std.specs.Prelude.{ℤ}
 use Rattle.fixdec.specs.Frac.{Frac}
 use Rattle.fixdec.specs.Member.{IsMember, Symbols}
 use Rattle.fixdec.specs.Operations.{Operations, IsLawful}
+use Rattle.lensmodel.specs.Claims.Closeness.{StandardAreClose}
 use Rattle.lensmodel.specs.Claims.Enclosure.{CoversResidual, EnclosesCrossing, HoldsPrepared, HoldsRay}
 use Rattle.lensmodel.specs.Equations.Chain.{Chain}
 use Rattle.lensmodel.specs.Equations.Crossing.{Transfers}
@@ -19,6 +20,7 @@ use Rattle.hitsolve.specs.Arrivals.{side_holds}
 use Rattle.hitsolve.specs.Aspheres.Zones.{zone_fits}
 use Rattle.hitsolve.specs.Caps.{IsInCap, CapsCrossed, clips_within_cap}
 use Rattle.hitsolve.specs.Hits.{hit_rows-encloses}
+use Rattle.hitsolve.specs.StandardCloseness.{standards_close}
 
 module _ {A : Type 0} (scale : ℕ) (o : Operations A) (member : A → Symbols → Frac → Type 0) (law : IsLawful scale o member)
     (face : Prepared A) (ray : Incoming A) (e : ℤ) (caps : CapsCrossed o scale face e (arrival_rows o face ray e)) (side : IsInCap (o.hull ray.n)) where
@@ -31,3 +33,6 @@ module _ {A : Type 0} (scale : ℕ) (o : Operations A) (member : A → Symbols �
   hit-encloses s well j covers c hf hr t h =
       hit_rows-encloses scale o member law s c j e covers t h face hf ray hr (on_side s j c hf hr t) (λ k. zone_fits s well j (sym hf.kind ∙ k))
       (clips_within_cap o scale face ray e caps)
+
+  pub standards-close : (s : Setup) (j : ℕ) → CoversResidual scale s e → StandardAreClose o scale member s j face ray e
+  standards-close s j covers = standards_close scale o member law s j e covers face ray (on_side s j)

@@ -5,5 +5,6 @@ pub mod Encloses
 pub mod Hits
 pub mod Narrowing
 pub mod StandardChains
+pub mod StandardCloseness
 pub mod StandardCrossings
 pub mod Values

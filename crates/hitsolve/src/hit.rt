@@ -2,6 +2,7 @@
 
 ghost use Rattle.std.specs.Prelude.{◌≡◌, ℕ, ℤ, pos, ◌≤◌, ◌≤ℤ◌};
 ghost use Rattle.fixdec.specs.Ends.{InCap};
+ghost use Rattle.lensmodel.specs.Claims.Closeness.{StandardAreClose};
 ghost use Rattle.lensmodel.specs.Claims.Enclosure.{CoversResidual, EnclosesCrossing};
 ghost use Rattle.lensmodel.specs.Rows.Crossing as rows;
 ghost use Rattle.lensmodel.specs.Rows.Hit as hits;
@@ -166,6 +167,9 @@ pub fn hit_standard<T: Arith>(f: &Face<T>, r: &Ray<T>, e: i128) -> Step<Hit<T>>
 
     // Every crossing of a chain that is held is held by the answer.
     ensures encloses { (s : Setup) → IsWellFormed s → (j : ℕ) → CoversResidual T.SCALE s e → EnclosesCrossing T.member s j f.now r.now result }
+
+    // Two chains that the ray holds, on one line, cross the surface close by each other.
+    ensures close { (s : Setup) → (j : ℕ) → CoversResidual T.SCALE s e → StandardAreClose T.ops T.SCALE T.member s j f.now r.now e }
 {
     hit_rows(f, r, e)
 }
