@@ -1,0 +1,10 @@
+pub mod Arrivals
+pub mod Aspheres
+pub mod Caps
+pub mod Encloses
+pub mod Hits
+pub mod Narrowing
+pub mod StandardChains
+pub mod StandardCloseness
+pub mod StandardCrossings
+pub mod Values

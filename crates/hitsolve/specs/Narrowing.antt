@@ -1,0 +1,10 @@
+pub mod Blocks
+pub mod Cells
+pub mod Operations
+pub mod Parts
+pub mod Products
+pub mod Quotients
+pub mod Roots
+pub mod Sags
+pub mod Sums
+pub mod Windows

@@ -1,0 +1,31 @@
+-- What is said of a value, where a step gives one.
+use Rattle.std.proofs.Common.{◌≡◌, subst}
+use Rattle.fixdec.specs.Steps.{◌>>=◌}
+use Rattle.fixdec.specs.declared.step.Step.{Step}
+use Rattle.fixdec.specs.declared.step.Step.TheVariants.{Val, Empty, Lost}
+
+-- P of the value, if there is one
+abbrev pub IfVal : {A : Type 0} → Step A → (A → Type 0) → Type 0
+IfVal (Val a) P = P a
+IfVal Empty P = Unit {0}
+IfVal (Lost why) P = Unit {0}
+
+pub if_val-then : {A B : Type 0} (r : Step A) (f : A → Step B) (Q : A → Type 0) (P : B → Type 0) → IfVal r Q → ((x : A) → Q x → IfVal (f x) P) → IfVal (r >>= f) P
+if_val-then (Val a) f Q P h k = k a h
+if_val-then Empty f Q P h k = tt
+if_val-then (Lost why) f Q P h k = tt
+
+-- whatever the first step gives
+pub if_later : {A B : Type 0} (r : Step A) (f : A → Step B) (P : B → Type 0) → ((x : A) → IfVal (f x) P) → IfVal (r >>= f) P
+if_later (Val a) f P k = k a
+if_later Empty f P k = tt
+if_later (Lost why) f P k = tt
+
+pub always : {A : Type 0} (r : Step A) (P : Type 0) → P → IfVal r (λ a. P)
+always (Val a) P h = h
+always Empty P h = tt
+always (Lost why) P h = tt
+
+-- what is said of a value, where it is there
+pub if_val : {A : Type 0} {r : Step A} {x : A} (P : A → Type 0) → r ≡ Val x → IfVal r P → P x
+if_val P e h = subst (λ r. IfVal r P) e h
