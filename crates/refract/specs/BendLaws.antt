@@ -1,5 +1,5 @@
 -- How a ray leaves a surface is a member of what the rows of the bending give.
-use Rattle.std.proofs.Common.{◌≡◌, ℕ, suc, ◌<◌, Bool, true, false, sym, subst}
+use Rattle.std.proofs.Common.{ℕ, suc, ◌<◌, Bool, true, false, sym, subst}
 use Rattle.std.specs.Prelude.{ℤ, pos, Option, Some, None}
 use Rattle.fixdec.specs.Frac.{Frac, ◌≤Q◌, whole}
 use Rattle.fixdec.specs.Member.{Symbols}

@@ -1,5 +1,5 @@
 -- Values within the cap, as all values that code holds are, and what they keep where they are clipped to one side of 0.
-use Rattle.std.proofs.Common.{◌≡◌, ℕ, [], ◌∷◌, arith, subst, inl, inr}
+use Rattle.std.proofs.Common.{ℕ, [], ◌∷◌, arith, subst, inl, inr}
 use Rattle.std.proofs.lemmas.Int.{ints}
 use Rattle.std.specs.Prelude.{ℤ, pos, negsuc}
 use Rattle.fixdec.specs.Ends.{Ends, InCap}

@@ -1,9 +1,9 @@
 -- The normal and the cosine of incidence are members of what their rows give.
-use Rattle.std.proofs.Common.{◌≡◌, ℕ, suc, [], ◌∷◌, sym, subst}
+use Rattle.std.proofs.Common.{ℕ, suc, [], ◌∷◌, sym, subst}
 use Rattle.std.specs.Prelude.{ℤ, pos}
 use Rattle.fixdec.specs.Algebra.Linear.{linear, no_fact, reads}
 use Rattle.fixdec.specs.Algebra.OrderLaws.{le_of_lt}
-use Rattle.fixdec.specs.Frac.{Frac, ◌≈◌, ◌≤Q◌, ◌+Q◌, ◌-Q◌, ◌*Q◌, whole}
+use Rattle.fixdec.specs.Frac.{Frac, ◌≤Q◌, ◌+Q◌, ◌-Q◌, ◌*Q◌, whole}
 use Rattle.fixdec.specs.Member.{Symbols}
 use Rattle.fixdec.specs.Operations.{Operations, IsLawful}
 use Rattle.fixdec.specs.Steps.{OnVal, OnVal-then, ◌>>=◌}
@@ -18,9 +18,9 @@ use Rattle.lensmodel.specs.Rows.Constants.{whole_row}
 use Rattle.lensmodel.specs.Rows.Crossing.{Met}
 use Rattle.lensmodel.specs.Rows.Laws.{Covers, whole_member, widened}
 use Rattle.lensmodel.specs.Rows.Preparation.{Prepared}
-use Rattle.lensmodel.specs.Rows.Spans.{positive, side_of}
+use Rattle.lensmodel.specs.Rows.Spans.{side_of}
 use Rattle.lensmodel.specs.Rows.Start.{Incoming}
-use Rattle.lensmodel.specs.Setup.Values.{travel, eps}
+use Rattle.lensmodel.specs.Setup.Values.{eps}
 use Rattle.lensmodel.specs.declared.setup.Setup.{Setup}
 use Rattle.sagform.specs.SagLaws.{normal_rows-encloses}
 use Rattle.refract.specs.Clipping.{IfVal, OnVal-if, OnVal-along, AreInCap, clip_side-member, clip_positive-member}

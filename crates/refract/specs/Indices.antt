@@ -1,13 +1,13 @@
 -- The indices of a well-formed setup aren't negative.
 use Rattle.std.proofs.Common.{◌≡◌, ℕ, zero, suc, ◌<◌, Bool, true, false, List, [], ◌∷◌, refl, arith}
 use Rattle.std.proofs.lemmas.Int.{ints}
-use Rattle.std.specs.Prelude.{ℤ, pos, ◌≤ℤ◌, int_le, ◌&&◌, ◌-◌, not, nat_lt, length, drop, IsTrue, Option, Some, None, if◌then◌else◌}
-use Rattle.fixdec.specs.Algebra.MemberLaws.{units_pos, units_nn}
-use Rattle.fixdec.specs.Algebra.Linear.{linear_le, order, no_fact, reads}
-use Rattle.fixdec.specs.Algebra.Order.{le_trans, le_whole, le_refl}
-use Rattle.fixdec.specs.Algebra.OrderLaws.{le_cancel, zero_le_one, zero_le_whole}
+use Rattle.std.specs.Prelude.{pos, ◌≤ℤ◌, int_le, ◌&&◌, ◌-◌, not, nat_lt, length, drop, IsTrue, Option, Some, None}
+use Rattle.fixdec.specs.Algebra.MemberLaws.{units_pos}
+use Rattle.fixdec.specs.Algebra.Linear.{linear_le, no_fact, reads}
+use Rattle.fixdec.specs.Algebra.Order.{le_trans, le_whole}
+use Rattle.fixdec.specs.Algebra.OrderLaws.{le_cancel}
 use Rattle.fixdec.specs.Ends.{Ends}
-use Rattle.fixdec.specs.Frac.{Frac, ◌≤Q◌, ◌*Q◌, whole}
+use Rattle.fixdec.specs.Frac.{Frac, ◌≤Q◌, whole}
 use Rattle.fixdec.specs.IntervalOperations.{operations}
 use Rattle.fixdec.specs.Member.{IsMember, units}
 use Rattle.fixdec.specs.Steps.{OnVal, OnVal-then}
@@ -21,7 +21,7 @@ use Rattle.lensmodel.specs.Files.Picking.{is_good_index, is_from_1_to_5}
 use Rattle.lensmodel.specs.Rows.Constants.{residual_units}
 use Rattle.lensmodel.specs.Rows.Preparation.{medium_row, index_row}
 use Rattle.lensmodel.specs.Setup.Media.{medium_at}
-use Rattle.lensmodel.specs.Setup.Values.{surface_at, image, owner, reflects, eps, plane}
+use Rattle.lensmodel.specs.Setup.Values.{surface_at, image, owner, reflects, eps}
 use Rattle.lensmodel.specs.Setup.WellFormed.{IsWellFormed}
 use Rattle.lensmodel.specs.Setup.WholeFaults.{whole_fault, faults_from}
 use Rattle.lensmodel.specs.declared.fault.ZmxFault.TheVariants.{TooFewSurfaces, StopCount, MirrorAtObject}

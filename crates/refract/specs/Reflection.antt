@@ -1,8 +1,8 @@
 -- The direction of a reflected ray is a member of what its rows give.
-use Rattle.std.proofs.Common.{◌≡◌, ℕ, suc, [], ◌∷◌, sym, subst}
+use Rattle.std.proofs.Common.{ℕ, suc, [], ◌∷◌, sym, subst}
 use Rattle.std.specs.Prelude.{ℤ, pos}
 use Rattle.fixdec.specs.Algebra.Linear.{linear, no_fact, reads}
-use Rattle.fixdec.specs.Frac.{Frac, ◌≈◌, ◌+Q◌, ◌-Q◌, ◌*Q◌, whole}
+use Rattle.fixdec.specs.Frac.{Frac, ◌+Q◌, ◌-Q◌, ◌*Q◌, whole}
 use Rattle.fixdec.specs.Member.{Symbols}
 use Rattle.fixdec.specs.Operations.{Operations, IsLawful}
 use Rattle.fixdec.specs.Steps.{OnVal, OnVal-then, ◌>>=◌}
@@ -16,7 +16,7 @@ use Rattle.lensmodel.specs.Rows.Crossing.{Met}
 use Rattle.lensmodel.specs.Rows.Laws.{Covers, on_same, widened}
 use Rattle.lensmodel.specs.Rows.Preparation.{Prepared}
 use Rattle.lensmodel.specs.Rows.Start.{Incoming}
-use Rattle.lensmodel.specs.Setup.Values.{travel, eps}
+use Rattle.lensmodel.specs.Setup.Values.{eps}
 use Rattle.lensmodel.specs.declared.setup.Setup.{Setup}
 use Rattle.refract.specs.Incidence.{HoldsNormal}
 use Rattle.refract.specs.Signs.{IsSign, travel_sign, with_sign-member, against_sign-member}

@@ -1,10 +1,10 @@
 -- The direction of a refracted ray is a member of what its rows give.
-use Rattle.std.proofs.Common.{◌≡◌, ℕ, suc, [], ◌∷◌, sym, subst}
+use Rattle.std.proofs.Common.{ℕ, suc, [], ◌∷◌, sym, subst}
 use Rattle.std.specs.Prelude.{ℤ, pos}
 use Rattle.fixdec.specs.Algebra.FracLaws.{≈_sym}
 use Rattle.fixdec.specs.Algebra.Linear.{linear, no_fact, reads}
 use Rattle.fixdec.specs.Algebra.OrderLaws.{mul_nn}
-use Rattle.fixdec.specs.Frac.{Frac, ◌≈◌, ◌≤Q◌, ◌+Q◌, ◌-Q◌, ◌*Q◌, whole}
+use Rattle.fixdec.specs.Frac.{Frac, ◌≤Q◌, ◌+Q◌, ◌-Q◌, ◌*Q◌, whole}
 use Rattle.fixdec.specs.Member.{Symbols}
 use Rattle.fixdec.specs.Operations.{Operations, IsLawful}
 use Rattle.fixdec.specs.Steps.{OnVal, OnVal-then, ◌>>=◌}
@@ -20,10 +20,15 @@ use Rattle.lensmodel.specs.Rows.Crossing.{Met}
 use Rattle.lensmodel.specs.Rows.Laws.{Covers, whole_member, on_same, widened}
 use Rattle.lensmodel.specs.Rows.Preparation.{Prepared}
 use Rattle.lensmodel.specs.Rows.Start.{Incoming}
-use Rattle.lensmodel.specs.Setup.Values.{travel, eps}
+use Rattle.lensmodel.specs.Setup.Values.{eps}
 use Rattle.lensmodel.specs.declared.setup.Setup.{Setup}
 use Rattle.refract.specs.Incidence.{HoldsNormal}
 use Rattle.refract.specs.Signs.{IsSign, travel_sign, with_sign-member, against_sign-member}
+
+-- the root of Snell's law, from the squares of the indices behind and before
+abbrev pub snell_from : {A : Type 0} → Operations A → ℕ → A → A → A → ℤ → Step A
+snell_from o scale behind before cos e = do
+  o.root (← o.widen (← o.minus behind (← o.times before (← o.minus (← whole_row o scale (pos 1)) (← o.square cos)))) e)
 
 module _ {A : Type 0} (o : Operations A) where
   -- a cosine across the axis, from ng*L and K*E

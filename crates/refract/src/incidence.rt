@@ -69,7 +69,7 @@ fn unclipped<T: Arith>(sign: i32, n: T, along: T, g: T, e: i128) -> Step<T>
 }
 
 /// `C = cl(wd(N - along)/g)`.
-fn cosine<T: Arith>(sign: i32, n: T, along: T, g: T, e: i128) -> Step<T>
+pub(crate) fn cosine<T: Arith>(sign: i32, n: T, along: T, g: T, e: i128) -> Step<T>
     requires scale { T.SCALE ≤ 15 }
     requires low { pos 0 ≤ℤ e }
     requires high { InCap e }

@@ -14,7 +14,7 @@ use sagform::face::Face;
 use sagform::ray::{Dir, Hit, Ray};
 
 /// `wd(a + (k*x))/g`, with the sign of travel.
-fn mirrored<T: Arith>(sign: i32, a: T, k: T, x: T, g: T, e: i128) -> Step<T>
+pub(crate) fn mirrored<T: Arith>(sign: i32, a: T, k: T, x: T, g: T, e: i128) -> Step<T>
     requires scale { T.SCALE ≤ 15 }
     requires low { pos 0 ≤ℤ e }
     requires high { InCap e }
@@ -25,7 +25,7 @@ fn mirrored<T: Arith>(sign: i32, a: T, k: T, x: T, g: T, e: i128) -> Step<T>
 }
 
 /// `N' = wd((g*N) - G2)/g`, with the sign of travel.
-fn returned<T: Arith>(sign: i32, g: T, n: T, g2: T, e: i128) -> Step<T>
+pub(crate) fn returned<T: Arith>(sign: i32, g: T, n: T, g2: T, e: i128) -> Step<T>
     requires scale { T.SCALE ≤ 15 }
     requires low { pos 0 ≤ℤ e }
     requires high { InCap e }

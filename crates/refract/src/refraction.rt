@@ -3,7 +3,7 @@
 ghost use Rattle.std.specs.Prelude.{◌≡◌, ℤ, pos, ◌≤◌, ◌≤ℤ◌, Some};
 ghost use Rattle.fixdec.specs.Ends.{InCap};
 ghost use Rattle.lensmodel.specs.Rows.Bending as rows;
-ghost use Rattle.refract.specs.Refraction.{across_from, refracted_rows};
+ghost use Rattle.refract.specs.Refraction.{across_from, refracted_rows, snell_from};
 
 use crate::incidence::Normal;
 use crate::sign::{against_sign, with_sign};
@@ -14,16 +14,13 @@ use sagform::constant::whole;
 use sagform::face::Face;
 use sagform::ray::{Dir, Hit, Ray};
 
-/// `Kp = rt(wd(sq(n') - (sq(n)*(1 - sq(C)))))`.
-fn snell<T: Arith>(f: &Face<T>, n2: T, cos: T, e: i128) -> Step<T>
+/// `Kp = rt(wd(behind - (before*(1 - sq(C)))))`, by the squares of the indices behind and before.
+pub(crate) fn snell<T: Arith>(behind: T, before: T, cos: T, e: i128) -> Step<T>
     requires scale { T.SCALE ≤ 15 }
     requires low { pos 0 ≤ℤ e }
     requires high { InCap e }
-    requires behind { f.now.n2 ≡ Some n2 }
-    ensures { result ≡ rows.snell_row T.ops T.SCALE f.now.n n2 cos e }
+    ensures { result ≡ snell_from T.ops T.SCALE behind before cos e }
 {
-    let behind = val!(f.n2_square());
-    let before = val!(f.n_square());
     let one = val!(whole::<T>(1));
     let sine = val!(before.times(val!(one.minus(val!(cos.square())))));
     val!(val!(behind.minus(sine)).widen(e)).root()
@@ -52,7 +49,7 @@ fn onward<T: Arith>(sign: i32, ng: T, n: T, k: T, mg: T, e: i128) -> Step<T>
 }
 
 /// L', M' and N', from `ng`, `mg` and K.
-fn refracted<T: Arith>(
+pub(crate) fn refracted<T: Arith>(
     sign: i32,
     ng: T,
     mg: T,
@@ -92,7 +89,9 @@ pub(crate) fn refraction<T: Arith>(
     requires behind { f.now.n2 ≡ Some n2 }
     ensures { result ≡ rows.refraction_rows T.ops T.SCALE f.now n2 r.now h.now normal.now e }
 {
-    let kp = val!(snell(f, n2, normal.cos, e));
+    let behind = val!(f.n2_square());
+    let before = val!(f.n_square());
+    let kp = val!(snell(behind, before, normal.cos, e));
     let k = val!(kp.minus(val!(f.n().times(normal.cos))));
     let ng = val!(f.n().times(normal.g));
     let mg = val!(n2.times(normal.g));
