@@ -2,7 +2,7 @@
 use Rattle.std.proofs.Common.{◌≡◌, ℕ, ◌+◌, ◌-◌, ◌*◌, ◌^◌, max, ap, ◌∙◌, refl}
 use Rattle.std.specs.Prelude.{pos, ◌*ℤ◌, ◌-ℤ◌, map, int_lt, int_le, unsigned_abs, if◌then◌else◌}
 use Rattle.std.specs.Int.{div_ceil}
-use Rattle.fixdec.specs.Form.{LinearForm, linear_operations, lin_hull, kept, moved, divided, lin_of_span, lin_plus, lin_minus, lin_times, lin_over, lin_root, lin_widen, lin_shift, lin_clip, lin_symbol}
+use Rattle.fixdec.specs.Form.{LinearForm, linear_operations, lin_hull, within_cap, moved_form, divided_form, lin_of_span, lin_plus, lin_minus, lin_times, lin_over, lin_root, lin_widen, lin_shift, lin_clip, lin_symbol}
 use Rattle.fixdec.specs.Interval.{unit, iv_root}
 use Rattle.fixdec.specs.Operations.{Operations}
 use Rattle.fixdec.specs.Root.{root}
@@ -15,7 +15,7 @@ abbrev root_above_by : (ℕ → ℕ) → ℕ → LinearForm → LinearForm
 root_above_by f scale a =
     let s = f (unsigned_abs a.centre * 10 ^ scale) in
     let x = max (s - f (unsigned_abs (lin_hull a).lo * 10 ^ scale)) (up_by f (unsigned_abs (lin_hull a).hi * 10 ^ scale) - s) in
-    moved (pos s) (divided (pos (2 * s)) (a.centre *ℤ unit scale -ℤ pos (s * s)) (map (λ k. k *ℤ unit scale) a.coefficients)
+    moved_form (pos s) (divided_form (pos (2 * s)) (a.centre *ℤ unit scale -ℤ pos (s * s)) (map (λ k. k *ℤ unit scale) a.coefficients)
     (div_ceil (a.radius * 10 ^ scale) (2 * s) + div_ceil (x * x) (2 * s)))
 
 abbrev form_root_by : (ℕ → ℕ) → ℕ → LinearForm → Step LinearForm
@@ -24,7 +24,7 @@ form_root_by f scale a =
     then Empty
     else if int_le (lin_hull a).lo (pos 0)
     then (root_of f scale (lin_hull a) >>= λ e. Val (lin_of_span e))
-    else kept (root_above_by f scale a)
+    else within_cap (root_above_by f scale a)
 
 abbrev pub linear_by : (ℕ → ℕ) → ℕ → Operations LinearForm
 linear_by f scale = record {
