@@ -72,7 +72,7 @@ fn same_name(a: &Name, b: &Name) -> bool
 }
 
 /// Whether two media are the same: both air, or glasses of one name.
-fn same_medium(a: &Medium, b: &Medium) -> bool
+pub(crate) fn same_medium(a: &Medium, b: &Medium) -> bool
     ensures { result ≡ media.same_medium a.now b.now }
 {
     match (a, b) {
@@ -93,7 +93,7 @@ fn tolerances(toler: &Option<TolBox>) -> &[Tol]
 }
 
 /// Whether a tolerance stands on the index behind surface `j`.
-fn has_index_tolerance(list: &[Tol], j: u32) -> bool
+pub(crate) fn has_index_tolerance(list: &[Tol], j: u32) -> bool
     ensures { result ≡ media.has_tolerance list.now TolKind.Indx j }
 {
     for t in list {

@@ -63,3 +63,118 @@ fn great_coefficients(rt: HostRuntime) {
         assert_eq!(rt; is_great(&Dec { mant, exp }), great);
     }
 }
+
+/// An even asphere of the zone 5.5, so that D is 2.
+fn bulged() -> Surface {
+    let mut s = asphere(Dec { mant: 5, exp: 0 });
+    s.curv = Dec { mant: -25, exp: -3 };
+    s.conic = Dec { mant: -1, exp: 0 };
+    s.a2 = Dec { mant: 5, exp: -8 };
+    s.a8 = Dec {
+        mant: -25,
+        exp: -20,
+    };
+    s
+}
+
+#[test]
+fn faults_of_aspheres(rt: HostRuntime) {
+    let mut s = bulged();
+    assert_eq!(rt; asphere_fault(&s, 3), None);
+    s.a8 = Dec { mant: -25, exp: -8 };
+    assert_eq!(rt;
+        asphere_fault(&s, 3),
+        Some(ZmxFault::Coefficient { surface: 3, i: 8 })
+    );
+    s.semi = None;
+    assert_eq!(rt; asphere_fault(&s, 3), Some(ZmxFault::NoZone { surface: 3 }));
+    s.kind = SurfaceKind::Standard;
+    assert_eq!(rt; asphere_fault(&s, 3), None);
+}
+
+fn glass(letters: &[u8]) -> Medium {
+    let zero = Dec::default();
+    Medium::Of(Glass {
+        name: name(letters),
+        formula: 2,
+        c0: zero,
+        c1: zero,
+        c2: zero,
+        c3: zero,
+        c4: zero,
+        c5: zero,
+        low: None,
+        high: None,
+    })
+}
+
+#[test]
+fn media_by_their_names(rt: HostRuntime) {
+    assert_eq!(rt; same_medium(&Medium::Air, &Medium::Air), true);
+    assert_eq!(rt; same_medium(&Medium::Air, &glass(b"N-BK7")), false);
+    assert_eq!(rt; same_medium(&glass(b"n-bk7"), &glass(b"N-BK7")), true);
+    assert_eq!(rt; same_medium(&glass(b"N-BK7"), &glass(b"N-BK70")), false);
+}
+
+#[test]
+fn tolerances_on_index(rt: HostRuntime) {
+    let delta = Dec { mant: 1, exp: -4 };
+    let list = [
+        Tol {
+            kind: TolKind::Curv,
+            surface: 1,
+            delta,
+        },
+        Tol {
+            kind: TolKind::Indx,
+            surface: 2,
+            delta,
+        },
+    ];
+    assert_eq!(rt; has_index_tolerance(&list, 1), false);
+    assert_eq!(rt; has_index_tolerance(&list, 2), true);
+}
+
+#[test]
+fn lines_of_surfaces(rt: HostRuntime) {
+    let mut lens = Prescription {
+        surfaces: ArrayVec::new(),
+        stop: 1,
+        waves: ArrayVec::new(),
+        primary: 1,
+    };
+    let mut object = Surface::default();
+    object.thick = None;
+    let _ = lens.surfaces.try_push(object);
+    let mut front = bulged();
+    front.rim = true;
+    front.glass = Some(name(b"n-bk7"));
+    let _ = lens.surfaces.try_push(front);
+    let mut mirror = asphere(Dec { mant: 5, exp: 0 });
+    mirror.mirror = true;
+    mirror.thick = Some(Dec {
+        mant: -125,
+        exp: -1,
+    });
+    let _ = lens.surfaces.try_push(mirror);
+    for (j, text) in [
+        (0u32, "surf 0 STANDARD c 0 k 0 d INFINITY rim - glass -\n"),
+        (1, "surf 1 EVENASPH c -25e-3 k -1 d 0 rim 5 glass n-bk7\n"),
+        (2, "surf 2 EVENASPH c 0 k 0 d -125e-1 rim - glass MIRROR\n"),
+    ] {
+        let mut out = ArrayString::<1024>::new();
+        if (j as usize) < lens.surfaces.len() {
+            line(&lens, j, &mut out);
+        }
+        assert_eq!(rt; out.as_str(), text);
+    }
+}
+
+#[test]
+fn scaled_coefficients(rt: HostRuntime) {
+    let mut s = asphere(Dec { mant: 5, exp: 0 });
+    s.a2 = Dec { mant: 5, exp: -8 };
+    if zone(&s).is_some() {
+        assert_eq!(rt; scaled(&s, 2), Dec { mant: 5, exp: -4 });
+    }
+}
