@@ -1,5 +1,5 @@
 -- Whether a surface lies between equal media, test by test.
-use Rattle.std.proofs.Common.{◌≡◌, ℕ, suc, ◌-◌, ◌≤◌, Bool, true, false, refl, ap, arith}
+use Rattle.std.proofs.Common.{◌≡◌, ℕ, suc, ◌-◌, ◌≤◌, Bool, true, false, ap, arith}
 use Rattle.std.specs.Prelude.{◌&&◌, not}
 use Rattle.lensmodel.specs.Setup.Media.{medium_at, same_medium, has_tolerance, is_between_equal_media}
 use Rattle.lensmodel.specs.Setup.Values.{owner, reflects, tolerances}

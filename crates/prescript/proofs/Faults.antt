@@ -1,5 +1,5 @@
 -- The faults of an even asphere, coefficient by coefficient.
-use Rattle.std.proofs.Common.{◌≡◌, ℕ, zero, suc, ◌+◌, ◌-◌, ◌<◌, true, false, List, ◌∷◌, get_or, refl, sym, ap, ◌∙◌, arith}
+use Rattle.std.proofs.Common.{◌≡◌, ℕ, zero, suc, ◌+◌, ◌-◌, ◌<◌, true, false, ◌∷◌, get_or, refl, ap, ◌∙◌, arith}
 use Rattle.std.specs.Prelude.{Option, Some, None, is_none, is_some}
 use Rattle.fixdec.specs.Ends.{Ends}
 use Rattle.fixdec.specs.Word.{IsReadable}
@@ -8,7 +8,6 @@ use Rattle.lensmodel.specs.Setup.Values.{zero_decimal}
 use Rattle.lensmodel.specs.Setup.WellFormed.{IsWritten, IsWrittenSurface}
 use Rattle.lensmodel.specs.Setup.WholeFaults.{is_great, asphere_faults}
 use Rattle.lensmodel.specs.Setup.Zones.{surface_zone, scaled_coefficient, written_coefficients}
-use Rattle.lensmodel.specs.declared.fault.ZmxFault.{ZmxFault}
 use Rattle.lensmodel.specs.declared.fault.ZmxFault.TheVariants.{Coefficient}
 use Rattle.lensmodel.specs.declared.surface.Surface.{Surface}
 use Rattle.lensmodel.specs.declared.surface.SurfaceKind.{SurfaceKind}

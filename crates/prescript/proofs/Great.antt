@@ -1,5 +1,5 @@
 -- Whether a decimal is above 10^9 in size, by its mantissa and its exponent.
-use Rattle.std.proofs.Common.{◌≡◌, ℕ, zero, suc, ◌+◌, ◌-◌, ◌*◌, ◌^◌, ◌<◌, ◌≤◌, Bool, true, false, refl, sym, ap, ◌∙◌, arith, mul-one}
+use Rattle.std.proofs.Common.{◌≡◌, ℕ, zero, suc, ◌+◌, ◌-◌, ◌*◌, ◌^◌, ◌<◌, ◌≤◌, true, false, sym, ap, ◌∙◌, arith, mul-one}
 use Rattle.std.proofs.Math.Nat.{one-le-pow, lt_of_mul-lt-mul_right, mul-lt-mul_of_pos_right, mul-le-mul_right, pow-le-pow_right}
 use Rattle.std.proofs.lemmas.Bool.{ltb-true, ltb-false, lt-ltb, le-ltb, ltb_from_iff}
 use Rattle.std.proofs.lemmas.Int.{ints, unsigned_abs-mul}

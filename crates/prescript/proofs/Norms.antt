@@ -1,5 +1,5 @@
 -- The power of ten of a scaled coefficient stays small.
-use Rattle.std.proofs.Common.{to_z, of_z, ◌≡◌, ℕ, suc, ◌*◌, ◌≤◌, refl, arith}
+use Rattle.std.proofs.Common.{to_z, of_z, ◌≡◌, ℕ, suc, ◌*◌, ◌≤◌, arith}
 use Rattle.std.proofs.lemmas.Int.{ints, to_z-of_z, to_z_pos}
 use Rattle.std.specs.Int.{w32}
 use Rattle.std.specs.Prelude.{ℤ, pos, negsuc, ◌≤ℤ◌, ◌*ℤ◌, FitsSigned}

@@ -1,6 +1,6 @@
 -- The power of ten of a zone.
-use Rattle.std.proofs.Common.{◌≡◌, refl, ap}
-use Rattle.std.specs.Prelude.{ℤ, pos, Bool, true, false, Option, Some, None, int_lt, int_le, ◌&&◌, if◌then◌else◌}
+use Rattle.std.proofs.Common.{◌≡◌, ap}
+use Rattle.std.specs.Prelude.{pos, Bool, true, false, Option, Some, None, int_lt, int_le, ◌&&◌, if◌then◌else◌}
 use Rattle.fixdec.specs.Decimal.{Decimal}
 use Rattle.fixdec.specs.Ends.{Ends}
 use Rattle.fixdec.specs.Zone.{zone, zone_span, norm}

@@ -1,6 +1,7 @@
 //! Values that an independent program of the same rules gives.
 
-ghost use Rattle.std.specs.Prelude.{◌≡◌};
+ghost use Rattle.std.specs.Prelude.{◌≡◌, ℤ, pos, negsuc, ◌≤ℤ◌};
+ghost use Rattle.lensmodel.specs.Setup.WellFormed.{IsWrittenIf, IsWrittenSurface};
 
 use crate::asphere::{asphere_fault, is_great, norm, scaled, zone};
 use crate::media::{has_index_tolerance, same_medium};
@@ -77,19 +78,46 @@ fn bulged() -> Surface {
     s
 }
 
+/// A surface of this form with a semi-diameter and an eighth coefficient of -25 times a power of ten.
+fn bent(kind: SurfaceKind, semi: Option<Dec>, exp: i32) -> Surface
+    requires semi { IsWrittenIf semi }
+    requires low { negsuc 59 ≤ℤ exp }
+    requires high { exp ≤ℤ pos 30 }
+    ensures { IsWrittenSurface result }
+{
+    let zero = Dec { mant: 0, exp: 0 };
+    Surface {
+        kind,
+        curv: zero,
+        conic: zero,
+        thick: Some(zero),
+        glass: None,
+        semi,
+        rim: false,
+        mirror: false,
+        a1: zero,
+        a2: zero,
+        a3: zero,
+        a4: zero,
+        a5: zero,
+        a6: zero,
+        a7: zero,
+        a8: Dec { mant: -25, exp },
+    }
+}
+
 #[test]
 fn faults_of_aspheres(rt: HostRuntime) {
-    let mut s = bulged();
-    assert_eq!(rt; asphere_fault(&s, 3), None);
-    s.a8 = Dec { mant: -25, exp: -8 };
-    assert_eq!(rt;
-        asphere_fault(&s, 3),
-        Some(ZmxFault::Coefficient { surface: 3, i: 8 })
-    );
-    s.semi = None;
-    assert_eq!(rt; asphere_fault(&s, 3), Some(ZmxFault::NoZone { surface: 3 }));
-    s.kind = SurfaceKind::Standard;
-    assert_eq!(rt; asphere_fault(&s, 3), None);
+    let sound = bent(SurfaceKind::EvenAsph, Some(Dec { mant: 5, exp: 0 }), -9);
+    assert_eq!(rt; asphere_fault(&sound, 3), None);
+    let steep = bent(SurfaceKind::EvenAsph, Some(Dec { mant: 5, exp: 0 }), -8);
+    let fault = ZmxFault::Coefficient { surface: 3, i: 8 };
+    assert_eq!(rt; asphere_fault(&steep, 3), Some(fault));
+    let endless = bent(SurfaceKind::EvenAsph, None, -9);
+    let fault = ZmxFault::NoZone { surface: 3 };
+    assert_eq!(rt; asphere_fault(&endless, 3), Some(fault));
+    let standard = bent(SurfaceKind::Standard, None, -8);
+    assert_eq!(rt; asphere_fault(&standard, 3), None);
 }
 
 fn glass(letters: &[u8]) -> Medium {

@@ -1,5 +1,4 @@
 use Rattle.std.proofs.Common.{refl}
-use Rattle.prescript.proofs.Great as great
 use Rattle.prescript.proofs.Norms.{computed_times}
 use Rattle.prescript.proofs.asphere.scaled.Goals as goal
 

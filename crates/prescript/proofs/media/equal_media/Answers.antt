@@ -1,4 +1,4 @@
-use Rattle.std.proofs.Common.{◌≡◌, ◌-◌, Bool, refl, sym, ap, ◌∙◌}
+use Rattle.std.proofs.Common.{◌≡◌, ◌-◌, refl, sym, ap, ◌∙◌}
 use Rattle.std.specs.Prelude.{◌&&◌, not}
 use Rattle.lensmodel.specs.Setup.Media.{medium_at, same_medium, has_tolerance}
 use Rattle.lensmodel.specs.Setup.Values.{owner, reflects, tolerances}
