@@ -5,7 +5,7 @@ ghost use Rattle.arrayvec.specs.ArrayString.{array_string_len};
 ghost use Rattle.lensmodel.specs.Texts.FaultText as spec;
 
 use crate::pieces::{Line, push_number};
-use lensmodel::fault::{AgfFault, CrossFault, TextFault};
+use lensmodel::fault::{AgfFault, CrossFault, TextFault, ZmxFault};
 use lensmodel::status::FileKind;
 
 /// Writes `usage`. The line is empty before, here and below.
@@ -149,6 +149,48 @@ fn push_agf_cause(fault: AgfFault, out: &mut Line)
     }
 }
 
+/// Appends ` i n`, the number of a coefficient.
+fn push_i(i: u32, out: &mut Line)
+    requires { array_string_len out.old ≤ 1024 }
+    ensures bytes { out.new.bytes ≡ out.old.bytes ++ spec.at_i i }
+    ensures len { array_string_len out.new ≤ array_string_len out.old + 67 }
+{
+    out.push_str(" i ");
+    push_number(u64::from(i), out);
+}
+
+/// Appends the cause of a refused lens file, with its place; nothing for want of memory.
+fn push_zmx_cause(fault: ZmxFault, out: &mut Line)
+    requires { array_string_len out.old ≤ 512 }
+    ensures bytes { out.new.bytes ≡ out.old.bytes ++ spec.zmx_cause fault }
+    ensures len { array_string_len out.new ≤ array_string_len out.old + 170 }
+{
+    match fault {
+        ZmxFault::Text(text) => push_text_cause(text, out),
+        ZmxFault::NotSequential { line } => push_at_line("not-sequential", line, out),
+        ZmxFault::SurfaceOrder { line } => push_at_line("surface-order", line, out),
+        ZmxFault::TooManySurfaces { line } => push_at_line("too-many-surfaces", line, out),
+        ZmxFault::SurfaceType { line } => push_at_line("surface-type", line, out),
+        ZmxFault::MissingWord { line } => push_at_line("missing-word", line, out),
+        ZmxFault::BadNumber { line, word } => {
+            push_at_line("bad-number", line, out);
+            push_word(word, out);
+        }
+        ZmxFault::LongName { line } => push_at_line("long-name", line, out),
+        ZmxFault::ModelGlass { line } => push_at_line("model-glass", line, out),
+        ZmxFault::TooFewSurfaces => out.push_str("too-few-surfaces"),
+        ZmxFault::StopCount => out.push_str("stop-count"),
+        ZmxFault::MirrorAtObject => out.push_str("mirror-at-object"),
+        ZmxFault::InnerInfinity { surface } => push_at_surface("inner-infinity", surface, out),
+        ZmxFault::NoZone { surface } => push_at_surface("no-zone", surface, out),
+        ZmxFault::Coefficient { surface, i } => {
+            push_at_surface("coefficient", surface, out);
+            push_i(i, out);
+        }
+        ZmxFault::Memory => {}
+    }
+}
+
 /// Appends the cause of files that don't fit together, with its place.
 fn push_cross_cause(fault: CrossFault, out: &mut Line)
     requires { array_string_len out.old ≤ 512 }
@@ -174,6 +216,18 @@ pub fn print_agf_fault(fault: AgfFault, out: &mut Line)
     out.push_str(file_word(FileKind::Agf));
     out.push_str(" ");
     push_agf_cause(fault, out);
+    out.push_str("\n");
+}
+
+/// Writes `refused zmx CAUSE`, with the cause's place.
+pub fn print_zmx_fault(fault: ZmxFault, out: &mut Line)
+    requires { out.old.bytes ≡ [] }
+    ensures { out.new.bytes ≡ spec.refused_line FileKind.Zmx (spec.zmx_cause fault) }
+{
+    out.push_str("refused ");
+    out.push_str(file_word(FileKind::Zmx));
+    out.push_str(" ");
+    push_zmx_cause(fault, out);
     out.push_str("\n");
 }
 

@@ -4,6 +4,7 @@
 pub mod faults;
 pub mod glass;
 pub mod index;
+pub mod lens;
 pub mod pieces;
 #[cfg(test)]
 mod tests;

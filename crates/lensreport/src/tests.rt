@@ -1,18 +1,22 @@
 //! Each printer, with the bytes that an independent program of the same rules gives.
 
 use crate::faults::{
-    print_absent, print_agf_fault, print_cross_fault, print_read_fault, print_too_long, print_usage,
+    print_absent, print_agf_fault, print_cross_fault, print_read_fault, print_too_long,
+    print_usage, print_zmx_fault,
 };
 use crate::glass::{print_glass, print_glasses};
 use crate::index::print_index;
+use crate::lens::{print_asphere, print_lens, print_surface, print_unused, print_wave};
 use crate::pieces::Line;
 use arrayvec::ArrayVec;
 use fixdec::dec::Dec;
 use fixdec::span::Span;
-use lensmodel::fault::{AgfFault, CrossFault, TextFault};
+use lensmodel::fault::{AgfFault, CrossFault, TextFault, ZmxFault};
 use lensmodel::glass::Glass;
 use lensmodel::name::Name;
+use lensmodel::prescription::Prescription;
 use lensmodel::status::FileKind;
+use lensmodel::surface::{Surface, SurfaceKind};
 
 fn name(letters: &[u8]) -> Name {
     let mut units: Name = ArrayVec::new();
@@ -192,6 +196,128 @@ fn files_that_do_not_fit(rt: HostRuntime) {
     ] {
         let mut out = Line::new();
         print_cross_fault(fault, &mut out);
+        assert_eq!(rt; out.as_str(), text);
+    }
+}
+
+#[test]
+fn lens(rt: HostRuntime) {
+    let mut out = Line::new();
+    print_lens(&bulged_lens(), &mut out);
+    assert_eq!(rt; out.as_str(), "lens surfaces 2 stop 1 primary 3\n");
+}
+
+/// An object at infinity, and an even asphere with a rim.
+fn bulged_lens() -> Prescription {
+    let mut object = Surface::default();
+    object.thick = None;
+    let mut surfaces: ArrayVec<Surface, 64> = ArrayVec::new();
+    let _ = surfaces.try_push(object);
+    let _ = surfaces.try_push(bulged());
+    Prescription {
+        surfaces,
+        stop: 1,
+        waves: ArrayVec::new(),
+        primary: 3,
+    }
+}
+
+fn bulged() -> Surface {
+    let mut s = Surface::default();
+    s.kind = SurfaceKind::EvenAsph;
+    s.curv = Dec { mant: -25, exp: -3 };
+    s.conic = Dec { mant: -1, exp: 0 };
+    s.glass = Some(name(b"n-bk7"));
+    s.semi = Some(Dec { mant: 5, exp: 0 });
+    s.rim = true;
+    s.a2 = Dec { mant: 5, exp: -8 };
+    s.a8 = Dec {
+        mant: -25,
+        exp: -20,
+    };
+    s
+}
+
+#[test]
+fn surfaces(rt: HostRuntime) {
+    let lens = bulged_lens();
+    for (j, text) in [
+        (0u32, "surf 0 STANDARD c 0 k 0 d INFINITY rim - glass -\n"),
+        (1, "surf 1 EVENASPH c -25e-3 k -1 d 0 rim 5 glass n-bk7\n"),
+    ] {
+        let mut out = Line::new();
+        if (j as usize) < lens.surfaces.len() {
+            print_surface(&lens, j, &mut out);
+        }
+        assert_eq!(rt; out.as_str(), text);
+    }
+}
+
+#[test]
+fn aspheres(rt: HostRuntime) {
+    let mut out = Line::new();
+    print_asphere(&bulged(), 1, &mut out);
+    assert_eq!(rt;
+        out.as_str(),
+        "parm 1 2 5e-8\nparm 1 8 -25e-20\nzone 1 [5.500000000,5.500000000]\n"
+    );
+    let mut out = Line::new();
+    print_asphere(&bulged(), 0, &mut out);
+    assert_eq!(rt; out.as_str(), "parm 0 2 5e-8\nparm 0 8 -25e-20\n");
+    let mut out = Line::new();
+    print_asphere(&Surface::default(), 1, &mut out);
+    assert_eq!(rt; out.as_str(), "");
+}
+
+#[test]
+fn waves_and_unused_tags(rt: HostRuntime) {
+    let mut out = Line::new();
+    print_wave(
+        3,
+        Some(Dec {
+            mant: 5875618,
+            exp: -7,
+        }),
+        &mut out,
+    );
+    assert_eq!(rt; out.as_str(), "wave 3 5875618e-7\n");
+    let mut out = Line::new();
+    print_wave(4, None, &mut out);
+    assert_eq!(rt; out.as_str(), "");
+    let mut out = Line::new();
+    print_unused(&name(b"V\xC4RS"), 17, &mut out);
+    assert_eq!(rt; out.as_str(), "unused V?RS 17\n");
+}
+
+#[test]
+fn refused_lenses(rt: HostRuntime) {
+    for (fault, text) in [
+        (ZmxFault::Text(TextFault::OddByte), "refused zmx odd-byte\n"),
+        (
+            ZmxFault::NotSequential { line: 2 },
+            "refused zmx not-sequential line 2\n",
+        ),
+        (
+            ZmxFault::TooManySurfaces { line: 65 },
+            "refused zmx too-many-surfaces line 65\n",
+        ),
+        (
+            ZmxFault::BadNumber { line: 7, word: 2 },
+            "refused zmx bad-number line 7 word 2\n",
+        ),
+        (ZmxFault::TooFewSurfaces, "refused zmx too-few-surfaces\n"),
+        (ZmxFault::MirrorAtObject, "refused zmx mirror-at-object\n"),
+        (
+            ZmxFault::InnerInfinity { surface: 1 },
+            "refused zmx inner-infinity surface 1\n",
+        ),
+        (
+            ZmxFault::Coefficient { surface: 1, i: 8 },
+            "refused zmx coefficient surface 1 i 8\n",
+        ),
+    ] {
+        let mut out = Line::new();
+        print_zmx_fault(fault, &mut out);
         assert_eq!(rt; out.as_str(), text);
     }
 }
