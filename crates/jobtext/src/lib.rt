@@ -1,13 +1,9 @@
-// A library with one function.
+//! Jobs: what is asked of a lens.
 #![tactic(auto)]
 
-ghost use Rattle.std.specs.Prelude.{◌≡◌};
-ghost use Rattle.jobtext.specs.Echo.{echo_of};
-
-// The `ensures` clause is the contract: what `echo` returns is `echo_of` of its argument, a definition
-// in `specs/Echo.antt`, which a caller's clause can cite too.
-pub fn echo(x: usize) -> usize
-    ensures { result ≡ echo_of x }
-{
-    x
-}
+mod ask;
+mod count;
+mod number;
+pub mod read;
+mod setting;
+mod walk;

@@ -7,7 +7,6 @@ ghost use Rattle.toltext.specs.Records.{word_fault};
 use lensmodel::fault::TolFault;
 use lensmodel::tolerance::{Tol, TolKind};
 use records::line::Line;
-use records::number::BadNumber;
 use records::word::is_word;
 
 /// The greatest number of a surface.
@@ -21,8 +20,12 @@ pub fn tolerance(at: u32, line: &Line<'_>) -> Result<Tol, TolFault>
     ensures fault { IfErr result (λ f. word_fault at line.now ≡ Some f) }
 {
     let kind = kind_of(line.known_word(1)).ok_or(TolFault::Word { line: at })?;
-    let surface = line.whole(2, MAX_SURFACE).map_err(|bad| in_line(at, bad))?;
-    let delta = line.number(3).map_err(|bad| in_line(at, bad))?;
+    let surface = line
+        .whole(2, MAX_SURFACE)
+        .map_err(|_| TolFault::BadNumber { line: at })?;
+    let delta = line
+        .number(3)
+        .map_err(|_| TolFault::BadNumber { line: at })?;
     Ok(Tol {
         kind,
         surface,
@@ -44,11 +47,4 @@ fn kind_of(word: &[u16]) -> Option<TolKind>
         return Some(TolKind::Indx);
     }
     None
-}
-
-/// The fault of a bad number in the line of a number.
-fn in_line(at: u32, _bad: BadNumber) -> TolFault
-    ensures { result ≡ TolFault.BadNumber at }
-{
-    TolFault::BadNumber { line: at }
 }
