@@ -43,7 +43,7 @@ asks_behind-append before (x ∷ ls) l =
 
 -- ---- the reader
 -- the lines with one more are those of a reader that took what the line says
-at_next : (before : List Words) (l : Words) (r next : Reader) (o : Option Ask)
+pub at_next : (before : List Words) (l : Words) (r next : Reader) (o : Option Ask)
     → next.wave ≡ (if is_WAVE l then Some (decimal_at 1 l) else r.wave)
     → next.res ≡ (if is_RES l then Some (number_at 1 l) else r.res)
     → next.width ≡ (if is_WIDTH l then Some (decimal_at 1 l) else r.width)

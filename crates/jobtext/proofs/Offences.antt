@@ -1,14 +1,15 @@
 -- What is wrong with one more line, by what the reader knows of those before.
-use Rattle.std.proofs.Common.{◌≡◌, ℕ, suc, ◌<◌, Bool, true, false, List, [], ◌∷◌, length, refl, sym, ap, ◌∙◌, arith}
-use Rattle.std.proofs.lemmas.Bool.{lt-ltb, ne_eqb}
+use Rattle.std.proofs.Common.{◌≡◌, ℕ, suc, Bool, true, false, List, [], ◌∷◌, length, refl, sym, ap, ◌∙◌, arith}
+use Rattle.std.proofs.lemmas.Bool.{lt-ltb, eq-eqb}
 use Rattle.std.specs.Option.{option_map, is_some}
-use Rattle.std.specs.Prelude.{Option, Some, None, ◌≢◌, codes, nat_eq, nat_lt, not, if◌then◌else◌}
+use Rattle.std.specs.Prelude.{Option, Some, None, codes, nat_eq, nat_lt, not, if◌then◌else◌}
+use Rattle.fixdec.specs.Decimal.{Decimal}
 use Rattle.lensmodel.specs.Files.Causes.{or_first, fault_if}
-use Rattle.lensmodel.specs.Files.JobFaults.{is_WAVE, is_RES, is_WIDTH, is_PUPIL, wrong_count, second, bad_decimals, bad_whole, out_of_range, is_within, whole_number, decimals_offence, PUPIL_offence, offence}
+use Rattle.lensmodel.specs.Files.JobFaults.{is_WAVE, is_RES, is_WIDTH, is_PUPIL, wrong_count, second, decimals_offence, PUPIL_offence, offence}
 use Rattle.lensmodel.specs.Files.Records.{Words, has_tag, last_where, count_where, some_where}
 use Rattle.lensmodel.specs.Setup.Ranges.{is_positive, is_residual, is_width, is_fan, is_grid}
 use Rattle.lensmodel.specs.declared.fault.JobFault.{JobFault}
-use Rattle.lensmodel.specs.declared.fault.JobFault.TheVariants.{Word, Missing}
+use Rattle.lensmodel.specs.declared.fault.JobFault.TheVariants.{Word}
 use Rattle.jobtext.specs.Readers.{IsAt, last_of}
 use Rattle.jobtext.specs.Records.{decimal_fault, whole_fault, aim_fault, spread_fault}
 use Rattle.jobtext.specs.declared.walk.Reader.{Reader}
@@ -74,9 +75,20 @@ setting_again is said n before l o a rest s some =
     ap (λ (b : Bool). or_first (wrong_count n 1 l) (or_first (fault_if b (Word n)) rest)) (came is said before o s ∙ ap is_some some)
     ∙ elim (not (nat_eq (length l) 2)) as (λ b. or_first (fault_if b (Word n)) (Some (Word n)) ≡ Some (Word n)) [ true ↦ refl | false ↦ refl ]
 
-pub WAVE-again : {A : Type 0} (n : ℕ) (before : List Words) (l : Words) (r : Reader) → is_WAVE l ≡ true → is_some r.wave ≡ true → IsAt before r
+pub WAVE-again : (n : ℕ) (before : List Words) (l : Words) (r : Reader) (a : Decimal) → is_WAVE l ≡ true → r.wave ≡ Some a → IsAt before r
     → offence n before l ≡ Some (Word n)
-WAVE-again n before l r h some at = ?
+WAVE-again n before l r a h some at = tagged (codes "WAVE") (λ (x : Words). offence n before x ≡ Some (Word n))
+    (λ more. setting_again is_WAVE _ n before (codes "WAVE" ∷ more) r.wave a _ at.wave some) l h
+
+pub RES-again : (n : ℕ) (before : List Words) (l : Words) (r : Reader) (a : ℕ) → is_RES l ≡ true → r.res ≡ Some a → IsAt before r
+    → offence n before l ≡ Some (Word n)
+RES-again n before l r a h some at = tagged (codes "RES") (λ (x : Words). offence n before x ≡ Some (Word n))
+    (λ more. setting_again is_RES _ n before (codes "RES" ∷ more) r.res a _ at.res some) l h
+
+pub WIDTH-again : (n : ℕ) (before : List Words) (l : Words) (r : Reader) (a : Decimal) → is_WIDTH l ≡ true → r.width ≡ Some a → IsAt before r
+    → offence n before l ≡ Some (Word n)
+WIDTH-again n before l r a h some at = tagged (codes "WIDTH") (λ (x : Words). offence n before x ≡ Some (Word n))
+    (λ more. setting_again is_WIDTH _ n before (codes "WIDTH" ∷ more) r.width a _ at.width some) l h
 
 -- ---- asks
 pub RAY-offence : (n : ℕ) (before : List Words) (l : Words) → has_tag (codes "RAY") l ≡ true → offence n before l ≡ decimals_offence n 4 l

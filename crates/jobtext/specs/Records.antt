@@ -1,5 +1,5 @@
 -- What one record of a job says, and what is wrong with it, by what stood before. A line is its list of words.
-use Rattle.std.specs.Prelude.{ℕ, Bool, ◌&&◌, nat_le, not, List, [], ◌∷◌, Option}
+use Rattle.std.specs.Prelude.{ℕ, Bool, ◌&&◌, nat_le, not, [], ◌∷◌, Option}
 use Rattle.fixdec.specs.Decimal.{Decimal}
 use Rattle.lensmodel.specs.Files.Causes.{fault_if, first_fault}
 use Rattle.lensmodel.specs.Files.JobFaults.{wrong_count, bad_decimals, bad_whole, out_of_range, is_within, whole_number}
