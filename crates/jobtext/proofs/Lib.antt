@@ -1,0 +1,6 @@
+pub mod Numbers
+pub mod Widths
+pub mod Growth
+pub mod Offences
+pub mod Steps
+pub mod Lines

@@ -1,0 +1,7 @@
+//! Tolerance boxes.
+#![tactic(auto)]
+
+mod place;
+pub mod read;
+mod tolerance;
+mod walk;
