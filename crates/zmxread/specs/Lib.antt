@@ -1,0 +1,7 @@
+pub mod Changes
+pub mod Tags
+pub mod Lens
+pub mod Stops
+pub mod Readers
+pub mod Whole
+pub mod File
