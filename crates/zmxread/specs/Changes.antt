@@ -3,7 +3,7 @@ use Rattle.std.specs.Prelude.{ℕ, nat_eq, List, codes, Option, Some, None, if�
 use Rattle.fixdec.specs.Decimal.{Decimal}
 use Rattle.lensmodel.specs.Files.Lens.{kind_in, decimal_in, thickness_in, glass_in, mirror_in, semi_in, rim_in}
 use Rattle.lensmodel.specs.Files.LensFaults.{index_of, is_asphere, is_mirror}
-use Rattle.lensmodel.specs.Files.Records.{Words, same_word, word_at, decimal_at, number_or_0}
+use Rattle.lensmodel.specs.Files.Records.{Words, same_word, has_tag, word_at, decimal_at, number_or_0}
 use Rattle.lensmodel.specs.declared.surface.Surface.{Surface}
 use Rattle.lensmodel.specs.declared.surface.SurfaceKind.{SurfaceKind}
 use Rattle.lensmodel.specs.declared.surface.SurfaceKind.TheVariants.{Standard, EvenAsph}
@@ -52,3 +52,15 @@ with_medium word f = record f {
   glass = if is_mirror word then None else Some (record { items = word });
   mirror = is_mirror word;
 }
+
+-- a surface after a line of its block
+abbrev pub with_field : Words → Surface → Surface
+with_field line f =
+    if has_tag (codes "TYPE") line then with_TYPE line f
+    else if has_tag (codes "CURV") line then with_CURV line f
+    else if has_tag (codes "DISZ") line then with_DISZ line f
+    else if has_tag (codes "GLAS") line then with_GLAS line f
+    else if has_tag (codes "DIAM") line then with_DIAM line f
+    else if has_tag (codes "CONI") line then with_CONI line f
+    else if has_tag (codes "PARM") line then with_PARM line f
+    else f

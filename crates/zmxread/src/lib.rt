@@ -3,6 +3,7 @@
 
 pub mod file;
 mod lens;
+mod names;
 mod numbers;
 pub mod read;
 mod surface;

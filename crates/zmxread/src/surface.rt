@@ -1,18 +1,19 @@
 //! What each record of a surface changes in it.
 
 ghost use Rattle.std.specs.Prelude.{◌≡◌, ◌<◌, ◌≤◌, Some, None, length, IfOk, IfErr, OnOk};
-ghost use Rattle.lensmodel.specs.Files.LensFaults.{TYPE_fault, decimal_fault, DISZ_fault, GLAS_fault, DIAM_fault, indexed_fault};
+ghost use Rattle.lensmodel.specs.Files.LensFaults as lines;
+ghost use Rattle.lensmodel.specs.Files.LensFaults.{surface_offence, TYPE_fault, decimal_fault, DISZ_fault, GLAS_fault, DIAM_fault, indexed_fault};
 ghost use Rattle.fixdec.specs.Reading.{decimal_of};
 ghost use Rattle.lensmodel.specs.Files.Records.{word_at, is_number};
-ghost use Rattle.zmxread.specs.Changes.{kind_if, with_TYPE, with_CURV, with_DISZ, with_GLAS, with_DIAM, with_CONI, with_PARM, with_coefficient, with_medium};
+ghost use Rattle.zmxread.specs.Changes.{kind_if, with_TYPE, with_CURV, with_DISZ, with_GLAS, with_DIAM, with_CONI, with_PARM, with_coefficient, with_medium, with_field};
 
+use crate::names::name_of;
 use crate::numbers::{index, is_one, number};
-use arrayvec::ArrayVec;
 use fixdec::dec::Dec;
 use lensmodel::fault::ZmxFault;
-use lensmodel::name::Name;
 use lensmodel::surface::{Surface, SurfaceKind};
 use records::line::Line;
+use records::record_table;
 use records::word::is_word;
 
 /// The form of a type.
@@ -29,7 +30,7 @@ fn kind_of(word: &[u16]) -> Option<SurfaceKind>
 }
 
 /// Takes a TYPE record.
-pub fn set_kind(surface: &mut Surface, line: &Line<'_>, at: u32) -> Result<(), ZmxFault>
+fn set_kind(surface: &mut Surface, line: &Line<'_>, at: u32) -> Result<(), ZmxFault>
     requires { 1 < length line.now }
     ensures surface { OnOk result (surface.new ≡ with_TYPE line.now surface.old) }
     ensures sound { OnOk result (TYPE_fault at line.now ≡ None) }
@@ -45,7 +46,7 @@ pub fn set_kind(surface: &mut Surface, line: &Line<'_>, at: u32) -> Result<(), Z
 }
 
 /// Takes a CURV record.
-pub fn set_curvature(surface: &mut Surface, line: &Line<'_>, at: u32) -> Result<(), ZmxFault>
+fn set_curvature(surface: &mut Surface, line: &Line<'_>, at: u32) -> Result<(), ZmxFault>
     requires { 1 < length line.now }
     ensures surface { OnOk result (surface.new ≡ with_CURV line.now surface.old) }
     ensures sound { OnOk result (decimal_fault at line.now ≡ None) }
@@ -56,7 +57,7 @@ pub fn set_curvature(surface: &mut Surface, line: &Line<'_>, at: u32) -> Result<
 }
 
 /// Takes a CONI record.
-pub fn set_conic(surface: &mut Surface, line: &Line<'_>, at: u32) -> Result<(), ZmxFault>
+fn set_conic(surface: &mut Surface, line: &Line<'_>, at: u32) -> Result<(), ZmxFault>
     requires { 1 < length line.now }
     ensures surface { OnOk result (surface.new ≡ with_CONI line.now surface.old) }
     ensures sound { OnOk result (decimal_fault at line.now ≡ None) }
@@ -67,7 +68,7 @@ pub fn set_conic(surface: &mut Surface, line: &Line<'_>, at: u32) -> Result<(), 
 }
 
 /// Takes a DISZ record.
-pub fn set_thickness(surface: &mut Surface, line: &Line<'_>, at: u32) -> Result<(), ZmxFault>
+fn set_thickness(surface: &mut Surface, line: &Line<'_>, at: u32) -> Result<(), ZmxFault>
     requires { 1 < length line.now }
     ensures surface { OnOk result (surface.new ≡ with_DISZ line.now surface.old) }
     ensures sound { OnOk result (DISZ_fault at line.now ≡ None) }
@@ -80,16 +81,6 @@ pub fn set_thickness(surface: &mut Surface, line: &Line<'_>, at: u32) -> Result<
     let thickness = number(line, at, 1)?;
     surface.thick = Some(thickness);
     Ok(())
-}
-
-/// The name of a glass.
-fn name_of(word: &[u16]) -> Name
-    requires { length word.now ≤ 40 }
-    ensures { result.items ≡ word.now }
-{
-    let mut name: Name = ArrayVec::new();
-    let _ = name.try_extend_from_slice(word);
-    name
 }
 
 /// Puts a glass, or a mirror, behind a surface.
@@ -107,7 +98,7 @@ fn set_medium(surface: &mut Surface, word: &[u16])
 }
 
 /// Takes a GLAS record.
-pub fn set_glass(surface: &mut Surface, line: &Line<'_>, at: u32) -> Result<(), ZmxFault>
+fn set_glass(surface: &mut Surface, line: &Line<'_>, at: u32) -> Result<(), ZmxFault>
     requires { 1 < length line.now }
     ensures surface { OnOk result (surface.new ≡ with_GLAS line.now surface.old) }
     ensures sound { OnOk result (GLAS_fault at line.now ≡ None) }
@@ -149,7 +140,7 @@ fn has_rim(line: &Line<'_>) -> bool
 }
 
 /// Takes a DIAM record.
-pub fn set_semi(surface: &mut Surface, line: &Line<'_>, at: u32) -> Result<(), ZmxFault>
+fn set_semi(surface: &mut Surface, line: &Line<'_>, at: u32) -> Result<(), ZmxFault>
     requires { 1 < length line.now }
     ensures surface { OnOk result (surface.new ≡ with_DIAM line.now surface.old) }
     ensures sound { OnOk result (DIAM_fault at line.now ≡ None) }
@@ -179,7 +170,7 @@ fn put_coefficient(surface: &mut Surface, i: u32, a: Dec)
 }
 
 /// Takes a PARM record.
-pub fn set_coefficient(surface: &mut Surface, line: &Line<'_>, at: u32) -> Result<(), ZmxFault>
+fn set_coefficient(surface: &mut Surface, line: &Line<'_>, at: u32) -> Result<(), ZmxFault>
     requires { 2 < length line.now }
     ensures surface { OnOk result (surface.new ≡ with_PARM line.now surface.old) }
     ensures sound { OnOk result (indexed_fault at line.now ≡ None) }
@@ -189,4 +180,36 @@ pub fn set_coefficient(surface: &mut Surface, line: &Line<'_>, at: u32) -> Resul
     let a = number(line, at, 2)?;
     put_coefficient(surface, i, a);
     Ok(())
+}
+
+/// Whether a line has one of the tags of a surface.
+pub fn is_of_surface(line: &Line<'_>) -> bool
+    ensures { result ≡ lines.is_of_surface line.now }
+{
+    line.has_tag(b"TYPE")
+        || line.has_tag(b"CURV")
+        || line.has_tag(b"DISZ")
+        || line.has_tag(b"GLAS")
+        || line.has_tag(b"DIAM")
+        || line.has_tag(b"CONI")
+        || line.has_tag(b"PARM")
+        || line.has_tag(b"STOP")
+        || line.has_tag(b"COMM")
+}
+
+/// Takes a line into its surface. A line of another tag than those of its fields changes nothing.
+pub fn take_field(surface: &mut Surface, line: &Line<'_>, at: u32) -> Result<(), ZmxFault>
+    ensures surface { OnOk result (surface.new ≡ with_field line.now surface.old) }
+    ensures sound { OnOk result (surface_offence at line.now ≡ None) }
+    ensures fault { IfErr result (λ f. surface_offence at line.now ≡ Some f) }
+{
+    record_table!(line, ZmxFault::MissingWord { line: at } => {
+        b"TYPE", 1 words => set_kind(surface, line, at),
+        b"CURV", 1 words => set_curvature(surface, line, at),
+        b"DISZ", 1 words => set_thickness(surface, line, at),
+        b"GLAS", 1 words => set_glass(surface, line, at),
+        b"DIAM", 1 words => set_semi(surface, line, at),
+        b"CONI", 1 words => set_conic(surface, line, at),
+        b"PARM", 2 words => set_coefficient(surface, line, at),
+    } else Ok(()))
 }

@@ -1,18 +1,20 @@
 //! The walk along the lines of a lens file.
 
-ghost use Rattle.std.specs.Prelude.{◌≡◌, ◌≢◌, ◌++◌, ◌∷◌, ◌+◌, ◌<◌, length, [], None, Some, IfOk, IfErr, OnOk, take};
-ghost use Rattle.lensmodel.specs.Files.Lens.{tag_name};
+ghost use Rattle.std.specs.Prelude.{◌≡◌, ◌≢◌, ◌++◌, ◌∷◌, [], List, false, None, Some, IfErr, OnOk};
+ghost use Rattle.lensmodel.specs.Files.LensFaults.{is_of_lens, offence};
+ghost use Rattle.lensmodel.specs.Files.Records.{Words};
 ghost use Rattle.zmxread.specs.Readers.{IsAt};
 ghost use Rattle.zmxread.specs.Stops.{marked_too};
+ghost use Rattle.zmxread.specs.Tags.{with_unused};
 
-use crate::lens::{begin_surface, check_mode, no_wavelengths, primary, set_wavelength};
-use crate::surface::{set_coefficient, set_conic, set_curvature, set_glass, set_kind, set_semi, set_thickness};
 use crate::file::ZmxFile;
+use crate::lens::{begin_surface, check_mode, no_wavelengths, primary, set_wavelength};
+use crate::names::tag_name;
+use crate::surface::{is_of_surface, take_field};
 use crate::tags::Tags;
 use crate::whole::whole_fault;
 use arrayvec::ArrayVec;
 use lensmodel::fault::ZmxFault;
-use lensmodel::name::Name;
 use lensmodel::prescription::Prescription;
 use records::line::Line;
 use records::record_table;
@@ -72,26 +74,22 @@ impl Reader {
     }
 
     /// Takes a line whose tag is none of a whole lens.
-    fn take_of_surface(&mut self, at: u32, line: &Line<'_>) -> Result<(), ZmxFault> {
+    fn take_of_surface(&mut self, at: u32, line: &Line<'_>) -> Result<(), ZmxFault>
+        requires { is_of_lens line.now ≡ false }
+        ensures passed { OnOk result ((before : List Words) → IsAt before self.old
+            → (offence at before line.now ≡ None) × IsAt (before ++ line.now ∷ []) self.new) }
+        ensures fault { IfErr result (λ f. f ≢ ZmxFault.Memory → (before : List Words) → IsAt before self.old
+            → offence at before line.now ≡ Some f) }
+    {
         let count = self.lens.surfaces.len();
-        if count == 0 {
+        if count == 0 || !is_of_surface(line) {
             return self.pass_over(line);
         }
-        let surface = &mut self.lens.surfaces[count - 1];
-        record_table!(line, ZmxFault::MissingWord { line: at } => {
-            b"TYPE", 1 words => set_kind(surface, line, at),
-            b"CURV", 1 words => set_curvature(surface, line, at),
-            b"DISZ", 1 words => set_thickness(surface, line, at),
-            b"GLAS", 1 words => set_glass(surface, line, at),
-            b"DIAM", 1 words => set_semi(surface, line, at),
-            b"CONI", 1 words => set_conic(surface, line, at),
-            b"PARM", 2 words => set_coefficient(surface, line, at),
-            b"STOP", 0 words => {
-                self.stop = self.stop.marked(count as u32 - 1);
-                Ok(())
-            },
-            b"COMM", 0 words => Ok(()),
-        } else self.pass_over(line))
+        if line.has_tag(b"STOP") {
+            self.stop = self.stop.marked(count as u32 - 1);
+            return Ok(());
+        }
+        take_field(&mut self.lens.surfaces[count - 1], line, at)
     }
 
     /// What all lines say, unless the whole lens is at fault.
@@ -111,21 +109,15 @@ impl Reader {
     }
 
     /// Counts a line whose tag isn't used.
-    fn pass_over(&mut self, line: &Line<'_>) -> Result<(), ZmxFault> {
+    fn pass_over(&mut self, line: &Line<'_>) -> Result<(), ZmxFault>
+        ensures unused { OnOk result (self.new ≡ record self.old { unused = with_unused line.now self.old.unused }) }
+        ensures fault { IfErr result (λ f. f ≡ ZmxFault.Memory) }
+    {
         match line.word(0) {
-            Some(tag) => self.unused.add(front(tag)).map_err(|_| ZmxFault::Memory),
+            Some(tag) => self.unused.add(tag_name(tag)).map_err(|_| ZmxFault::Memory),
             None => Ok(()),
         }
     }
-}
-
-/// The first 40 units of a tag.
-fn front(tag: &[u16]) -> Name
-    ensures { result.items ≡ take 40 tag.now }
-{
-    let mut name: Name = ArrayVec::new();
-    let _ = name.try_extend_from_slice(&tag[..tag.len().min(40)]);
-    name
 }
 
 impl LineReader for Reader {
