@@ -6,3 +6,5 @@ pub mod Lasts
 pub mod Marks
 pub mod Waves
 pub mod Unused
+pub mod LastItem
+pub mod Steps

@@ -5,6 +5,8 @@ use Rattle.zmxread.proofs.Blocks
 use Rattle.zmxread.proofs.Marks
 use Rattle.zmxread.proofs.Waves
 use Rattle.zmxread.proofs.Unused
+use Rattle.zmxread.proofs.LastItem
+use Rattle.zmxread.proofs.Steps
 use Rattle.zmxread.proofs.names.tag_name.Goals as goal
 
 pub returns : goal.returns
