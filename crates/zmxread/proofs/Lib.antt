@@ -8,3 +8,4 @@ pub mod Waves
 pub mod Unused
 pub mod LastItem
 pub mod Steps
+pub mod LensSteps

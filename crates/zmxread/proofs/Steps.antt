@@ -170,7 +170,7 @@ each_block-none is make (x ∷ ls) l h e =
     ] refl
 
 -- ---- what stays
-surfaces-old : (before : List Words) (l : Words) → HasNone l → all_surfaces (before ++ l ∷ []) ≡ all_surfaces before
+pub surfaces-old : (before : List Words) (l : Words) → HasNone l → all_surfaces (before ++ l ∷ []) ≡ all_surfaces before
 surfaces-old before l h = each_block-grows is_SURF surface_of before l (λ f. f) (none-changes l h) ∙ on_last-same (all_surfaces before)
 
 -- what a line of no whole lens leaves

@@ -1,12 +1,5 @@
 use Rattle.std.proofs.Common.{◌≡◌, take, length, min, ap, ◌∙◌, arith}
 use Rattle.std.proofs.lemmas.List.{take_min}
-use Rattle.zmxread.proofs.Lasts
-use Rattle.zmxread.proofs.Blocks
-use Rattle.zmxread.proofs.Marks
-use Rattle.zmxread.proofs.Waves
-use Rattle.zmxread.proofs.Unused
-use Rattle.zmxread.proofs.LastItem
-use Rattle.zmxread.proofs.Steps
 use Rattle.zmxread.proofs.names.tag_name.Goals as goal
 
 pub returns : goal.returns
