@@ -21,9 +21,9 @@ refill-same xs ys e =
     take-append-le (length xs) ys (drop (length ys) xs) h ∙ take_all (length xs) ys k
 
 -- the last item of a list that isn't empty, written at its index
-pub write-last : {A : Type 0} (xs ys : List A) (count : ℕ) (old next : A) (change : A → A) → ys ≡ xs → count ≡ length xs → (count ≡ 0 → ⊥)
-    → old ≡ slice_index_or ys (count - 1) old → next ≡ change old → refill (length xs) xs (slice_set ys (count - 1) next) ≡ on_last change xs
-write-last xs ys count old next change e n some is to = elim (last_of_list xs) [
+pub write-last : {A : Type 0} (xs ys : List A) (count : ℕ) (d next : A) (change : A → A) → ys ≡ xs → count ≡ length xs → (count ≡ 0 → ⊥)
+    → next ≡ change (slice_index_or ys (count - 1) d) → refill (length xs) xs (slice_set ys (count - 1) next) ≡ on_last change xs
+write-last xs ys count d next change e n some to = elim (last_of_list xs) [
   | inl z ↦ absurd (some (n ∙ ap length z))
   | inr z ↦
     let front = z.0 in
@@ -31,7 +31,7 @@ write-last xs ys count old next change e n some is to = elim (last_of_list xs) [
     let all : ys ≡ front ++ last ∷ [] = e ∙ z.2 in
     let sizes : length xs ≡ suc (length front) = omega (arith, ap length z.2, length-append front (last ∷ [])) in
     let place : count - 1 ≡ length front = omega arith in
-    let old_is : old ≡ last = is ∙ (λ i. slice_index_or (all i) (place i) old) ∙ index-last front last old in
+    let old_is : slice_index_or ys (count - 1) d ≡ last = (λ i. slice_index_or (all i) (place i) d) ∙ index-last front last d in
     let set_is : slice_set ys (count - 1) next ≡ front ++ next ∷ [] = (λ i. slice_set (all i) (place i) next) ∙ set-last front last next in
     let same : length (front ++ next ∷ []) ≡ length xs = omega (arith, length-append front (next ∷ [])) in
     ap (refill (length xs) xs) set_is ∙ refill-same xs (front ++ next ∷ []) same

@@ -16,6 +16,7 @@ use Rattle.zmxread.specs.Readers.{IsAt, stop_among, marks_of}
 use Rattle.zmxread.specs.Stops.{marked_too}
 use Rattle.zmxread.specs.Tags.{with_unused}
 use Rattle.zmxread.specs.declared.walk.Reader.{Reader}
+use Rattle.zmxread.specs.declared.walk.Stop.{Stop}
 use Rattle.zmxread.proofs.Blocks.{Changes, on_last, on_last-same, each_block-begins, each_block-grows}
 use Rattle.zmxread.proofs.LastItem.{write-last}
 use Rattle.zmxread.proofs.Lasts.{HasNone, none-changes, TYPE-changes, CURV-changes, CONI-changes, DISZ-changes, GLAS-changes, DIAM-changes, PARM-changes, last_of-new, last_of-old}
@@ -237,10 +238,10 @@ read-inside : (before : List Words) (l : Words) → IsInner l → is_of_surface 
 read-inside before l i h b = rw (not-of-lens l i, h, b) refl
 
 -- STOP marks the last surface
-pub STOP-step : (n : ℕ) (before : List Words) (l : Words) (r : Reader) (count : ℕ) → IsInner l → IsAt before r → has_tag (codes "STOP") l ≡ true
-    → count ≡ length r.lens.surfaces.items → (count ≡ 0 → ⊥)
-    → (offence n before l ≡ None) × IsAt (before ++ l ∷ []) (record r { stop = marked_too (count - 1) r.stop })
-STOP-step n before l r count i at h c some =
+pub STOP-step : (n : ℕ) (before : List Words) (l : Words) (r : Reader) (count : ℕ) (next : Stop) → IsInner l → IsAt before r → has_tag (codes "STOP") l ≡ true
+    → count ≡ length r.lens.surfaces.items → (count ≡ 0 → ⊥) → next ≡ marked_too (count - 1) r.stop
+    → (offence n before l ≡ None) × IsAt (before ++ l ∷ []) (record r { stop = next })
+STOP-step n before l r count next i at h c some to =
     let no : (tag : List ℕ) → Rattle.lensmodel.specs.Files.Records.same_word (codes "STOP") tag ≡ false → has_tag tag l ≡ false = λ tag e. other_tag (codes "STOP") tag l h e in
     let type = no (codes "TYPE") refl in
     let curv = no (codes "CURV") refl in
@@ -258,21 +259,21 @@ STOP-step n before l r count i at h c some =
         omega arith in
     let passes : surface_offence n l ≡ None = rw (type, curv, disz, glas, diam, coni, parm) refl in
     (offence-inner n before l i begun ∙ passes,
-    inner-step before l r (record r { stop = marked_too (count - 1) r.stop }) i at
+    inner-step before l r (record r { stop = next }) i at
     (at.surfaces ∙ sym (surfaces-old before l none)) refl refl
-    (ap (marked_too (count - 1)) at.stop ∙ sym (marks-STOP before l (count - 1) h marks))
+    (to ∙ ap (marked_too (count - 1)) at.stop ∙ sym (marks-STOP before l (count - 1) h marks))
     (at.unused ∙ sym (unused-read before l (read-inside before l i of begun))))
 
 -- a line of a field, or a comment, changes the last surface
-pub field-step : (n : ℕ) (before : List Words) (l : Words) (r : Reader) (count : ℕ) (xs : List Surface) (old new : Surface) → IsInner l → IsAt before r
+pub field-step : (n : ℕ) (before : List Words) (l : Words) (r : Reader) (count : ℕ) (xs : List Surface) (d new : Surface) → IsInner l → IsAt before r
     → has_tag (codes "STOP") l ≡ false → is_of_surface l ≡ true → count ≡ length r.lens.surfaces.items → (count ≡ 0 → ⊥) → xs ≡ r.lens.surfaces.items
-    → old ≡ slice_index_or xs (count - 1) old → surface_offence n l ≡ None → new ≡ with_field l old
+    → surface_offence n l ≡ None → new ≡ with_field l (slice_index_or xs (count - 1) d)
     → (offence n before l ≡ None) × IsAt (before ++ l ∷ []) (record r { lens = record r.lens { surfaces = with_items r.lens.surfaces (slice_set xs (count - 1) new) } })
-field-step n before l r count xs old new i at s of c some x is passes to =
+field-step n before l r count xs d new i at s of c some x passes to =
     let begun = some-begun before r at (λ e. some (c ∙ e)) in
     (offence-inner n before l i begun ∙ passes,
     inner-step before l r (record r { lens = record r.lens { surfaces = with_items r.lens.surfaces (slice_set xs (count - 1) new) } }) i at
-    (write-last r.lens.surfaces.items xs count old new (with_field l) x c some is to ∙ ap (on_last (with_field l)) at.surfaces
+    (write-last r.lens.surfaces.items xs count d new (with_field l) x c some to ∙ ap (on_last (with_field l)) at.surfaces
         ∙ sym (each_block-grows is_SURF surface_of before l (with_field l) (field-changes n l i.surf passes)))
     refl refl
     (at.stop ∙ ap stop_among (sym (marks-other before l i.surf s)))
