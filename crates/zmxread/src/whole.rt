@@ -1,6 +1,6 @@
 //! What is wrong with a lens as a whole.
 
-ghost use Rattle.std.specs.Prelude.{◌≡◌, pos, ◌-◌, ◌≤◌, ◌≤ℤ◌, neg_ℤ, length, drop, IfSome};
+ghost use Rattle.std.specs.Prelude.{◌≡◌, pos, ◌-◌, ◌≤◌, ◌≤ℤ◌, neg_ℤ, int_lt, ◌||◌, length, drop, IfSome};
 ghost use Rattle.std.specs.List.{All};
 ghost use Rattle.fixdec.specs.Word.{IsReadable};
 ghost use Rattle.fixdec.specs.Zone.{IsZone};
@@ -23,12 +23,19 @@ use lensmodel::surface::{Surface, SurfaceKind};
 /// The greatest size of a coefficient.
 const MOST: i128 = 1_000_000_000;
 
+/// Whether one of two ends is above 10^9 in size.
+fn passes_most(ends: &Span) -> bool
+    ensures { result ≡ (int_lt ends.now.lo (neg_ℤ (pos 1_000_000_000)) || int_lt (pos 1_000_000_000) ends.now.hi) }
+{
+    ends.lo < -MOST || MOST < ends.hi
+}
+
 /// Whether a coefficient is above 10^9 in size.
 fn is_great(b: &Dec) -> bool
     ensures { result ≡ faults.is_great b.now }
 {
     match span(b, 0) {
-        Step::Val(ends) => ends.lo < -MOST || MOST < ends.hi,
+        Step::Val(ends) => passes_most(&ends),
         _ => true,
     }
 }
