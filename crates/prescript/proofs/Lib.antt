@@ -1,0 +1,5 @@
+mod Between
+mod Faults
+mod Great
+mod Norms
+mod Zones
