@@ -9,4 +9,4 @@ pub mod Unused
 pub mod LastItem
 pub mod Steps
 pub mod LensSteps
-pub mod GreatSizes
+pub mod FirstFaults

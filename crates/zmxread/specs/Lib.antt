@@ -3,5 +3,4 @@ pub mod Tags
 pub mod Lens
 pub mod Stops
 pub mod Readers
-pub mod Whole
 pub mod File
