@@ -10,3 +10,5 @@ pub mod LastItem
 pub mod Steps
 pub mod LensSteps
 pub mod FirstFaults
+pub mod WrittenNumbers
+pub mod FileLines

@@ -141,7 +141,7 @@ has_none : (l : Words) → is_SURF l ≡ false → IsOther l → HasNone l
 has_none l s o = record { surf = s; type = o.type; curv = o.curv; coni = o.coni; disz = o.disz; glas = o.glas; diam = o.diam; parm = o.parm }
 
 -- ---- the surfaces so far
-each_block-count : {A : Type 0} (is : Words → Bool) (make : Words → List Words → A) (ls : List Words) → length (each_block is make ls) ≡ count_where is ls
+pub each_block-count : {A : Type 0} (is : Words → Bool) (make : Words → List Words → A) (ls : List Words) → length (each_block is make ls) ≡ count_where is ls
 each_block-count is make [] = refl
 each_block-count is make (x ∷ ls) =
     rw (sym (each_block-count is make ls))

@@ -1,10 +1,13 @@
 //! The walk along the lines of a lens file.
 
-ghost use Rattle.std.specs.Prelude.{◌≡◌, ◌≢◌, ◌++◌, ◌∷◌, [], List, false, None, Some, IfErr, OnOk};
+ghost use Rattle.std.specs.Prelude.{◌≡◌, ◌≢◌, ◌++◌, ◌∷◌, [], List, false, None, Some, IfOk, IfErr, OnOk};
+ghost use Rattle.std.specs.List.{All};
 ghost use Rattle.lensmodel.specs.Files.LensFaults.{is_of_lens, offence};
 ghost use Rattle.lensmodel.specs.Files.Records.{Words};
-ghost use Rattle.zmxread.specs.Readers.{IsAt};
-ghost use Rattle.zmxread.specs.Stops.{marked_too};
+ghost use Rattle.lensmodel.specs.Setup.WellFormed.{IsWrittenSurface};
+ghost use Rattle.lensmodel.specs.Setup.WholeFaults.{whole_fault as lens_fault};
+ghost use Rattle.zmxread.specs.Readers.{IsAt, closed_lens};
+ghost use Rattle.zmxread.specs.Stops.{marked_too, stop_or};
 ghost use Rattle.zmxread.specs.Tags.{with_unused};
 
 use crate::file::ZmxFile;
@@ -33,6 +36,16 @@ pub enum Stop {
 }
 
 impl Stop {
+    /// The number of the stop, or the count of the surfaces where not exactly one is marked.
+    fn number(self, count: u32) -> u32
+        ensures { result ≡ stop_or count self }
+    {
+        match self {
+            Stop::At(j) => j,
+            Stop::Missing | Stop::Several => count,
+        }
+    }
+
     /// With the mark of surface `j`, where none behind it is marked.
     fn marked(self, j: u32) -> Stop
         ensures { result ≡ marked_too j self }
@@ -93,12 +106,15 @@ impl Reader {
     }
 
     /// What all lines say, unless the whole lens is at fault.
-    pub fn finish(self) -> Result<ZmxFile, ZmxFault> {
+    pub fn finish(self) -> Result<ZmxFile, ZmxFault>
+        requires { All IsWrittenSurface self.lens.surfaces.items }
+        ensures lens { IfOk result (λ f. f.lens ≡ closed_lens self) }
+        ensures unused { IfOk result (λ f. f.unused ≡ self.unused) }
+        ensures sound { OnOk result (lens_fault (closed_lens self) ≡ None) }
+        ensures fault { IfErr result (λ f. lens_fault (closed_lens self) ≡ Some f) }
+    {
         let mut lens = self.lens;
-        lens.stop = match self.stop {
-            Stop::At(j) => j,
-            Stop::Missing | Stop::Several => lens.surfaces.len() as u32,
-        };
+        lens.stop = self.stop.number(lens.surfaces.len() as u32);
         match whole_fault(&lens) {
             Some(fault) => Err(fault),
             None => Ok(ZmxFile {
