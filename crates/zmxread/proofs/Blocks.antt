@@ -54,9 +54,9 @@ block-grows is make [] l h = inl (refl, rw h refl)
 block-grows {A} is make (x ∷ ls) l h =
     elim (is x) as (λ b.
     (((if b then make x (block_before is ls) ∷ each_block is make ls else each_block is make ls) ≡ [])
-        × ((if b then [] else x ∷ block_before is (ls ++ l ∷ [])) ≡ (if b then [] else x ∷ block_before is ls) ++ l ∷ []))
+    × ((if b then [] else x ∷ block_before is (ls ++ l ∷ [])) ≡ (if b then [] else x ∷ block_before is ls) ++ l ∷ []))
     ⊎ ((a : A) × (more : List A) × ((if b then make x (block_before is ls) ∷ each_block is make ls else each_block is make ls) ≡ a ∷ more)
-        × ((if b then [] else x ∷ block_before is (ls ++ l ∷ [])) ≡ (if b then [] else x ∷ block_before is ls)))) [
+    × ((if b then [] else x ∷ block_before is (ls ++ l ∷ [])) ≡ (if b then [] else x ∷ block_before is ls)))) [
       | true ↦ inr (make x (block_before is ls), each_block is make ls, refl, refl)
       | false ↦ elim (block-grows is make ls l h) [
         | inl e ↦ inl (e.0, ap (λ b. x ∷ b) e.1)

@@ -32,7 +32,7 @@ closed-is ls r at =
     let marks = each_block is_SURF is_marked ls in
     let count : length r.lens.surfaces.items ≡ length marks = count-so-far ls r at ∙ sym (each_block-count is_SURF is_marked ls) in
     let stop : stop_or (length r.lens.surfaces.items) r.stop ≡ one_or (length marks) (marked_from 0 marks) =
-        (λ i. stop_or (count i) (at.stop i)) ∙ sym (stop_of-among (length marks) (marked_from 0 marks)) in
+    (λ i. stop_or (count i) (at.stop i)) ∙ sym (stop_of-among (length marks) (marked_from 0 marks)) in
     (λ i. record {
       surfaces = record { items = at.surfaces i };
       stop = stop i;

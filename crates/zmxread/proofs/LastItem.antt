@@ -26,14 +26,14 @@ pub write-last : {A : Type 0} (xs ys : List A) (count : ℕ) (d next : A) (chang
 write-last xs ys count d next change e n some to = elim (last_of_list xs) [
   | inl z ↦ absurd (some (n ∙ ap length z))
   | inr z ↦
-    let front = z.0 in
-    let last = z.1 in
-    let all : ys ≡ front ++ last ∷ [] = e ∙ z.2 in
-    let sizes : length xs ≡ suc (length front) = omega (arith, ap length z.2, length-append front (last ∷ [])) in
-    let place : count - 1 ≡ length front = omega arith in
-    let old_is : slice_index_or ys (count - 1) d ≡ last = (λ i. slice_index_or (all i) (place i) d) ∙ index-last front last d in
-    let set_is : slice_set ys (count - 1) next ≡ front ++ next ∷ [] = (λ i. slice_set (all i) (place i) next) ∙ set-last front last next in
-    let same : length (front ++ next ∷ []) ≡ length xs = omega (arith, length-append front (next ∷ [])) in
-    ap (refill (length xs) xs) set_is ∙ refill-same xs (front ++ next ∷ []) same
-    ∙ ap (λ x. front ++ x ∷ []) (to ∙ ap change old_is) ∙ sym (on_last-append change front last) ∙ ap (on_last change) (sym z.2)
+      let front = z.0 in
+      let last = z.1 in
+      let all : ys ≡ front ++ last ∷ [] = e ∙ z.2 in
+      let sizes : length xs ≡ suc (length front) = omega (arith, ap length z.2, length-append front (last ∷ [])) in
+      let place : count - 1 ≡ length front = omega arith in
+      let old_is : slice_index_or ys (count - 1) d ≡ last = (λ i. slice_index_or (all i) (place i) d) ∙ index-last front last d in
+      let set_is : slice_set ys (count - 1) next ≡ front ++ next ∷ [] = (λ i. slice_set (all i) (place i) next) ∙ set-last front last next in
+      let same : length (front ++ next ∷ []) ≡ length xs = omega (arith, length-append front (next ∷ [])) in
+      ap (refill (length xs) xs) set_is ∙ refill-same xs (front ++ next ∷ []) same
+      ∙ ap (λ x. front ++ x ∷ []) (to ∙ ap change old_is) ∙ sym (on_last-append change front last) ∙ ap (on_last change) (sym z.2)
 ]

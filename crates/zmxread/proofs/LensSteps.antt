@@ -50,15 +50,16 @@ pub MODE-step : (n : ℕ) (before : List Words) (l : Words) (r : Reader) → has
     → (offence n before l ≡ None) × IsAt (before ++ l ∷ []) r
 MODE-step n before l r h at f =
     let o = no (codes "MODE") l h in
-    let read : is_read before l ≡ true = rw h refl in
-    (MODE-offence n before l h ∙ f,
-    record {
-      surfaces = at.surfaces ∙ sym (surfaces-old before l (none_of (codes "MODE") l h refl refl refl refl refl refl refl refl));
-      waves = at.waves ∙ sym (waves-old before l (o (codes "WAVM") refl));
-      primary = at.primary ∙ ap primary_in (sym (last_of-old (codes "PWAV") before l (o (codes "PWAV") refl)));
-      stop = at.stop ∙ ap stop_among (sym (marks-other before l (o (codes "SURF") refl) (o (codes "STOP") refl)));
-      unused = at.unused ∙ sym (unused-read before l read);
-    })
+    let read : is_read before l ≡ true = rw h refl in (
+      MODE-offence n before l h ∙ f,
+      record {
+        surfaces = at.surfaces ∙ sym (surfaces-old before l (none_of (codes "MODE") l h refl refl refl refl refl refl refl refl));
+        waves = at.waves ∙ sym (waves-old before l (o (codes "WAVM") refl));
+        primary = at.primary ∙ ap primary_in (sym (last_of-old (codes "PWAV") before l (o (codes "PWAV") refl)));
+        stop = at.stop ∙ ap stop_among (sym (marks-other before l (o (codes "SURF") refl) (o (codes "STOP") refl)));
+        unused = at.unused ∙ sym (unused-read before l read);
+      },
+    )
 
 -- ---- SURF
 pub SURF-offence : (n : ℕ) (before : List Words) (l : Words) (r : Reader) → has_tag (codes "SURF") l ≡ true → IsAt before r
@@ -74,15 +75,16 @@ pub SURF-step : (n : ℕ) (before : List Words) (l : Words) (r next : Reader) �
 SURF-step n before l r next h at f s w p t u =
     let o = no (codes "SURF") l h in
     let m : has_tag (codes "MODE") l ≡ false = o (codes "MODE") refl in
-    let read : is_read before l ≡ true = rw (m, h) refl in
-    (SURF-offence n before l r h at ∙ f,
-    record {
-      surfaces = s ∙ ap (λ fs. fs ++ plane ∷ []) at.surfaces ∙ sym (each_block-begins is_SURF surface_of before l h);
-      waves = ap (λ v. v.items) w ∙ at.waves ∙ sym (waves-old before l (o (codes "WAVM") refl));
-      primary = p ∙ at.primary ∙ ap primary_in (sym (last_of-old (codes "PWAV") before l (o (codes "PWAV") refl)));
-      stop = t ∙ at.stop ∙ ap stop_among (sym (marks-SURF before l h));
-      unused = u ∙ at.unused ∙ sym (unused-read before l read);
-    })
+    let read : is_read before l ≡ true = rw (m, h) refl in (
+      SURF-offence n before l r h at ∙ f,
+      record {
+        surfaces = s ∙ ap (λ fs. fs ++ plane ∷ []) at.surfaces ∙ sym (each_block-begins is_SURF surface_of before l h);
+        waves = ap (λ v. v.items) w ∙ at.waves ∙ sym (waves-old before l (o (codes "WAVM") refl));
+        primary = p ∙ at.primary ∙ ap primary_in (sym (last_of-old (codes "PWAV") before l (o (codes "PWAV") refl)));
+        stop = t ∙ at.stop ∙ ap stop_among (sym (marks-SURF before l h));
+        unused = u ∙ at.unused ∙ sym (unused-read before l read);
+      },
+    )
 
 -- ---- WAVM
 pub WAVM-offence : (n : ℕ) (before : List Words) (l : Words) → has_tag (codes "WAVM") l ≡ true → offence n before l ≡ indexed_fault n l
@@ -99,15 +101,16 @@ WAVM-step n before l r next h at f w s p t u =
     let o = no (codes "WAVM") l h in
     let m : has_tag (codes "MODE") l ≡ false = o (codes "MODE") refl in
     let f_surf : has_tag (codes "SURF") l ≡ false = o (codes "SURF") refl in
-    let read : is_read before l ≡ true = rw (m, f_surf, h) refl in
-    (WAVM-offence n before l h ∙ f,
-    record {
-      surfaces = ap (λ v. v.items) s ∙ at.surfaces ∙ sym (surfaces-old before l (none_of (codes "WAVM") l h refl refl refl refl refl refl refl refl));
-      waves = w ∙ ap (with_WAVM l) at.waves ∙ sym (waves-new before l (number_or_0 (index_of (word_at 1 l))) h (index-known n l f));
-      primary = p ∙ at.primary ∙ ap primary_in (sym (last_of-old (codes "PWAV") before l (o (codes "PWAV") refl)));
-      stop = t ∙ at.stop ∙ ap stop_among (sym (marks-other before l f_surf (o (codes "STOP") refl)));
-      unused = u ∙ at.unused ∙ sym (unused-read before l read);
-    })
+    let read : is_read before l ≡ true = rw (m, f_surf, h) refl in (
+      WAVM-offence n before l h ∙ f,
+      record {
+        surfaces = ap (λ v. v.items) s ∙ at.surfaces ∙ sym (surfaces-old before l (none_of (codes "WAVM") l h refl refl refl refl refl refl refl refl));
+        waves = w ∙ ap (with_WAVM l) at.waves ∙ sym (waves-new before l (number_or_0 (index_of (word_at 1 l))) h (index-known n l f));
+        primary = p ∙ at.primary ∙ ap primary_in (sym (last_of-old (codes "PWAV") before l (o (codes "PWAV") refl)));
+        stop = t ∙ at.stop ∙ ap stop_among (sym (marks-other before l f_surf (o (codes "STOP") refl)));
+        unused = u ∙ at.unused ∙ sym (unused-read before l read);
+      },
+    )
 
 -- ---- PWAV
 pub PWAV-offence : (n : ℕ) (before : List Words) (l : Words) → has_tag (codes "PWAV") l ≡ true → offence n before l ≡ PWAV_fault n l
@@ -126,12 +129,13 @@ PWAV-step n before l r next h at f p s w t u =
     let m : has_tag (codes "MODE") l ≡ false = o (codes "MODE") refl in
     let f_surf : has_tag (codes "SURF") l ≡ false = o (codes "SURF") refl in
     let f_wavm : has_tag (codes "WAVM") l ≡ false = o (codes "WAVM") refl in
-    let read : is_read before l ≡ true = rw (m, f_surf, f_wavm, h) refl in
-    (PWAV-offence n before l h ∙ f,
-    record {
-      surfaces = ap (λ v. v.items) s ∙ at.surfaces ∙ sym (surfaces-old before l (none_of (codes "PWAV") l h refl refl refl refl refl refl refl refl));
-      waves = ap (λ v. v.items) w ∙ at.waves ∙ sym (waves-old before l f_wavm);
-      primary = p ∙ ap primary_in (sym (last_of-new (codes "PWAV") before l h));
-      stop = t ∙ at.stop ∙ ap stop_among (sym (marks-other before l f_surf (o (codes "STOP") refl)));
-      unused = u ∙ at.unused ∙ sym (unused-read before l read);
-    })
+    let read : is_read before l ≡ true = rw (m, f_surf, f_wavm, h) refl in (
+      PWAV-offence n before l h ∙ f,
+      record {
+        surfaces = ap (λ v. v.items) s ∙ at.surfaces ∙ sym (surfaces-old before l (none_of (codes "PWAV") l h refl refl refl refl refl refl refl refl));
+        waves = ap (λ v. v.items) w ∙ at.waves ∙ sym (waves-old before l f_wavm);
+        primary = p ∙ ap primary_in (sym (last_of-new (codes "PWAV") before l h));
+        stop = t ∙ at.stop ∙ ap stop_among (sym (marks-other before l f_surf (o (codes "STOP") refl)));
+        unused = u ∙ at.unused ∙ sym (unused-read before l read);
+      },
+    )

@@ -33,7 +33,7 @@ marked_from-append j [] m = rw (add-zero j) refl
 marked_from-append j (x ∷ ms) m =
     let e : suc j + length ms ≡ j + suc (length ms) = omega arith in
     let r : marked_from (suc j) (ms ++ m ∷ []) ≡ marked_from (suc j) ms ++ (if m then (j + suc (length ms)) ∷ [] else []) =
-        marked_from-append (suc j) ms m ∙ ap (λ n. marked_from (suc j) ms ++ (if m then n ∷ [] else [])) e in
+    marked_from-append (suc j) ms m ∙ ap (λ n. marked_from (suc j) ms ++ (if m then n ∷ [] else [])) e in
     rw r (elim x as (λ b. (if b then j ∷ (marked_from (suc j) ms ++ (if m then (j + suc (length ms)) ∷ [] else [])) else (marked_from (suc j) ms ++ (if m then (j + suc (length ms)) ∷ [] else [])))
     ≡ (if b then j ∷ marked_from (suc j) ms else marked_from (suc j) ms) ++ (if m then (j + suc (length ms)) ∷ [] else [])) [ true ↦ refl | false ↦ refl ])
 
@@ -75,20 +75,20 @@ pub stop-marked : (n : ℕ) (ms : List Bool) → length ms ≡ suc n → stop_am
 stop-marked n ms e = elim (last_of_list ms) [
   | inl z ↦ absurd (omega (arith, ap length z))
   | inr z ↦
-    let front = z.0 in
-    let count : length front ≡ n = omega (arith, ap length z.2, length-append front (z.1 ∷ [])) in
-    let new : marked_from 0 (on_last (λ m. true) ms) ≡ marked_from 0 front ++ n ∷ [] =
-        ap (λ (x : List Bool). marked_from 0 (on_last (λ m. true) x)) z.2 ∙ ap (marked_from 0) (on_last-append (λ m. true) front z.1)
-        ∙ marks-append front true ∙ ap (λ k. marked_from 0 front ++ k ∷ []) count in
-    let before : marked_from 0 ms ≡ marked_from 0 front ++ (if z.1 then n ∷ [] else []) =
-        ap (marked_from 0) z.2 ∙ marks-append front z.1 ∙ ap (λ k. marked_from 0 front ++ (if z.1 then k ∷ [] else [])) count in
-    let h : AllBelow n (marked_from 0 front) = all_below 0 n front (omega arith) in
-    ap stop_among new
-    ∙ elim z.1 as (λ b. stop_among (marked_from 0 front ++ n ∷ []) ≡ marked_too n (stop_among (marked_from 0 front ++ (if b then n ∷ [] else [])))) [
-      | true ↦ stop_among-again n (marked_from 0 front)
-      | false ↦ stop_among-more n (marked_from 0 front) h ∙ ap (λ ks. marked_too n (stop_among ks)) (sym (append-none (marked_from 0 front)))
-    ]
-    ∙ ap (λ ks. marked_too n (stop_among ks)) (sym before)
+      let front = z.0 in
+      let count : length front ≡ n = omega (arith, ap length z.2, length-append front (z.1 ∷ [])) in
+      let new : marked_from 0 (on_last (λ m. true) ms) ≡ marked_from 0 front ++ n ∷ [] =
+      ap (λ (x : List Bool). marked_from 0 (on_last (λ m. true) x)) z.2 ∙ ap (marked_from 0) (on_last-append (λ m. true) front z.1)
+      ∙ marks-append front true ∙ ap (λ k. marked_from 0 front ++ k ∷ []) count in
+      let before : marked_from 0 ms ≡ marked_from 0 front ++ (if z.1 then n ∷ [] else []) =
+      ap (marked_from 0) z.2 ∙ marks-append front z.1 ∙ ap (λ k. marked_from 0 front ++ (if z.1 then k ∷ [] else [])) count in
+      let h : AllBelow n (marked_from 0 front) = all_below 0 n front (omega arith) in
+      ap stop_among new
+      ∙ elim z.1 as (λ b. stop_among (marked_from 0 front ++ n ∷ []) ≡ marked_too n (stop_among (marked_from 0 front ++ (if b then n ∷ [] else [])))) [
+        | true ↦ stop_among-again n (marked_from 0 front)
+        | false ↦ stop_among-more n (marked_from 0 front) h ∙ ap (λ ks. marked_too n (stop_among ks)) (sym (append-none (marked_from 0 front)))
+      ]
+      ∙ ap (λ ks. marked_too n (stop_among ks)) (sym before)
 ]
 
 -- ---- the marks of lines

@@ -70,11 +70,11 @@ field-changes n l s h =
                 | true ↦ (λ t5. changes-along l (with_CONI l) (with_field l) (λ f. rw (t0, t1, t2, t3, t4, t5) refl) (CONI-changes l t5))
                 | false ↦ (λ t5. elim (has_tag (codes "PARM") l) as (λ b. has_tag (codes "PARM") l ≡ b → Changes is_SURF surface_of l (with_field l)) [
                   | true ↦ (λ p.
-                    let e : surface_offence n l ≡ indexed_fault n l = rw (t0, t1, t2, t3, t4, t5, p) refl in
-                    let i = number_or_0 (index_of (word_at 1 l)) in
-                    changes-along l (with_PARM l) (with_field l) (λ f. rw (t0, t1, t2, t3, t4, t5, p) refl) (PARM-changes l i p (index-known n l (sym e ∙ h))))
+                      let e : surface_offence n l ≡ indexed_fault n l = rw (t0, t1, t2, t3, t4, t5, p) refl in
+                      let i = number_or_0 (index_of (word_at 1 l)) in
+                      changes-along l (with_PARM l) (with_field l) (λ f. rw (t0, t1, t2, t3, t4, t5, p) refl) (PARM-changes l i p (index-known n l (sym e ∙ h))))
                   | false ↦ (λ p. changes-along l (λ f. f) (with_field l) (λ f. rw (t0, t1, t2, t3, t4, t5, p) refl)
-                    (none-changes l (record { surf = s; type = t0; curv = t1; disz = t2; glas = t3; diam = t4; coni = t5; parm = p })))
+                      (none-changes l (record { surf = s; type = t0; curv = t1; disz = t2; glas = t3; diam = t4; coni = t5; parm = p })))
                 ] refl)
               ] refl)
             ] refl)
@@ -204,14 +204,15 @@ early-step n before l r next i at h e =
     let none = none-begun before r at h in
     let no : count_where is_SURF before ≡ 0 = sym (count-so-far before r at) ∙ h in
     let unread : is_read before l ≡ false = rw (not-of-lens l i, none) (elim (is_of_surface l) as (λ b. (b && false) ≡ false) [ true ↦ refl | false ↦ refl ]) in
-    let stop = ap (λ ms. Rattle.lensmodel.specs.Files.Lens.marked_from 0 ms) (each_block-none is_SURF is_marked before l i.surf no) in
-    (offence-before n before l i none,
-    inner-step before l r next i at
-    (ap (λ (x : Reader). x.lens.surfaces.items) e ∙ at.surfaces ∙ sym (each_block-none is_SURF surface_of before l i.surf no))
-    (ap (λ (x : Reader). x.lens.waves.items) e)
-    (ap (λ (x : Reader). x.lens.primary) e)
-    (ap (λ (x : Reader). x.stop) e ∙ at.stop ∙ ap stop_among (sym stop))
-    (ap (λ (x : Reader). x.unused) e ∙ ap (with_unused l) at.unused ∙ sym (unused-more before l unread)))
+    let stop = ap (λ ms. Rattle.lensmodel.specs.Files.Lens.marked_from 0 ms) (each_block-none is_SURF is_marked before l i.surf no) in (
+      offence-before n before l i none,
+      inner-step before l r next i at
+          (ap (λ (x : Reader). x.lens.surfaces.items) e ∙ at.surfaces ∙ sym (each_block-none is_SURF surface_of before l i.surf no))
+          (ap (λ (x : Reader). x.lens.waves.items) e)
+          (ap (λ (x : Reader). x.lens.primary) e)
+          (ap (λ (x : Reader). x.stop) e ∙ at.stop ∙ ap stop_among (sym stop))
+          (ap (λ (x : Reader). x.unused) e ∙ ap (with_unused l) at.unused ∙ sym (unused-more before l unread)),
+    )
 
 -- a line of another tag is
 pub other-step : (n : ℕ) (before : List Words) (l : Words) (r next : Reader) → IsInner l → IsAt before r → is_of_surface l ≡ false
@@ -221,17 +222,18 @@ other-step n before l r next i at h e =
     let unread : is_read before l ≡ false = rw (not-of-lens l i, h) refl in
     let passes : surface_offence n l ≡ None = rw (o.type, o.curv, o.disz, o.glas, o.diam, o.coni, o.parm) refl in
     let passed : offence n before l ≡ None =
-        elim (some_where is_SURF before) as (λ b. some_where is_SURF before ≡ b → offence n before l ≡ None) [
-          | true ↦ (λ t. offence-inner n before l i t ∙ passes)
-          | false ↦ (λ t. offence-before n before l i t)
-        ] refl in
-    (passed,
-    inner-step before l r next i at
-    (ap (λ (x : Reader). x.lens.surfaces.items) e ∙ at.surfaces ∙ sym (surfaces-old before l (has_none l i.surf o)))
-    (ap (λ (x : Reader). x.lens.waves.items) e)
-    (ap (λ (x : Reader). x.lens.primary) e)
-    (ap (λ (x : Reader). x.stop) e ∙ at.stop ∙ ap stop_among (sym (marks-other before l i.surf o.stop)))
-    (ap (λ (x : Reader). x.unused) e ∙ ap (with_unused l) at.unused ∙ sym (unused-more before l unread)))
+    elim (some_where is_SURF before) as (λ b. some_where is_SURF before ≡ b → offence n before l ≡ None) [
+      | true ↦ (λ t. offence-inner n before l i t ∙ passes)
+      | false ↦ (λ t. offence-before n before l i t)
+    ] refl in (
+      passed,
+      inner-step before l r next i at
+          (ap (λ (x : Reader). x.lens.surfaces.items) e ∙ at.surfaces ∙ sym (surfaces-old before l (has_none l i.surf o)))
+          (ap (λ (x : Reader). x.lens.waves.items) e)
+          (ap (λ (x : Reader). x.lens.primary) e)
+          (ap (λ (x : Reader). x.stop) e ∙ at.stop ∙ ap stop_among (sym (marks-other before l i.surf o.stop)))
+          (ap (λ (x : Reader). x.unused) e ∙ ap (with_unused l) at.unused ∙ sym (unused-more before l unread)),
+    )
 
 -- a line of a surface is read behind a SURF line
 read-inside : (before : List Words) (l : Words) → IsInner l → is_of_surface l ≡ true → some_where is_SURF before ≡ true → is_read before l ≡ true
@@ -254,15 +256,16 @@ STOP-step n before l r count next i at h c some to =
     let begun = some-begun before r at (λ e. some (c ∙ e)) in
     let of : is_of_surface l ≡ true = rw (type, curv, disz, glas, diam, coni, parm, h) refl in
     let marks : length (each_block is_SURF is_marked before) ≡ suc (count - 1) =
-        let k : length r.lens.surfaces.items ≡ count_where is_SURF before = count-so-far before r at in
-        let m : length (each_block is_SURF is_marked before) ≡ count_where is_SURF before = each_block-count is_SURF is_marked before in
-        omega arith in
-    let passes : surface_offence n l ≡ None = rw (type, curv, disz, glas, diam, coni, parm) refl in
-    (offence-inner n before l i begun ∙ passes,
-    inner-step before l r (record r { stop = next }) i at
-    (at.surfaces ∙ sym (surfaces-old before l none)) refl refl
-    (to ∙ ap (marked_too (count - 1)) at.stop ∙ sym (marks-STOP before l (count - 1) h marks))
-    (at.unused ∙ sym (unused-read before l (read-inside before l i of begun))))
+    let k : length r.lens.surfaces.items ≡ count_where is_SURF before = count-so-far before r at in
+    let m : length (each_block is_SURF is_marked before) ≡ count_where is_SURF before = each_block-count is_SURF is_marked before in
+    omega arith in
+    let passes : surface_offence n l ≡ None = rw (type, curv, disz, glas, diam, coni, parm) refl in (
+      offence-inner n before l i begun ∙ passes,
+      inner-step before l r (record r { stop = next }) i at
+          (at.surfaces ∙ sym (surfaces-old before l none)) refl refl
+          (to ∙ ap (marked_too (count - 1)) at.stop ∙ sym (marks-STOP before l (count - 1) h marks))
+          (at.unused ∙ sym (unused-read before l (read-inside before l i of begun))),
+    )
 
 -- a line of a field, or a comment, changes the last surface
 pub field-step : (n : ℕ) (before : List Words) (l : Words) (r : Reader) (count : ℕ) (xs : List Surface) (d new : Surface) → IsInner l → IsAt before r
@@ -270,14 +273,15 @@ pub field-step : (n : ℕ) (before : List Words) (l : Words) (r : Reader) (count
     → surface_offence n l ≡ None → new ≡ with_field l (slice_index_or xs (count - 1) d)
     → (offence n before l ≡ None) × IsAt (before ++ l ∷ []) (record r { lens = record r.lens { surfaces = with_items r.lens.surfaces (slice_set xs (count - 1) new) } })
 field-step n before l r count xs d new i at s of c some x passes to =
-    let begun = some-begun before r at (λ e. some (c ∙ e)) in
-    (offence-inner n before l i begun ∙ passes,
-    inner-step before l r (record r { lens = record r.lens { surfaces = with_items r.lens.surfaces (slice_set xs (count - 1) new) } }) i at
-    (write-last r.lens.surfaces.items xs count d new (with_field l) x c some to ∙ ap (on_last (with_field l)) at.surfaces
-        ∙ sym (each_block-grows is_SURF surface_of before l (with_field l) (field-changes n l i.surf passes)))
-    refl refl
-    (at.stop ∙ ap stop_among (sym (marks-other before l i.surf s)))
-    (at.unused ∙ sym (unused-read before l (read-inside before l i of begun))))
+    let begun = some-begun before r at (λ e. some (c ∙ e)) in (
+      offence-inner n before l i begun ∙ passes,
+      inner-step before l r (record r { lens = record r.lens { surfaces = with_items r.lens.surfaces (slice_set xs (count - 1) new) } }) i at
+          (write-last r.lens.surfaces.items xs count d new (with_field l) x c some to ∙ ap (on_last (with_field l)) at.surfaces
+          ∙ sym (each_block-grows is_SURF surface_of before l (with_field l) (field-changes n l i.surf passes)))
+          refl refl
+          (at.stop ∙ ap stop_among (sym (marks-other before l i.surf s)))
+          (at.unused ∙ sym (unused-read before l (read-inside before l i of begun))),
+    )
 
 -- the offence of such a line
 pub field-offence : (n : ℕ) (before : List Words) (l : Words) (r : Reader) (count : ℕ) → IsInner l → IsAt before r

@@ -62,13 +62,13 @@ counted-append (x ∷ names) n =
           let back : same_word n x ≡ true = same-of n x (sym (same-yes x n h)) in
           let count : count_of_name x (names ++ n ∷ []) ≡ suc (count_of_name x names) = count-append x names n ∙ rw h (omega arith) in
           let rest : without_tag x (counted (names ++ n ∷ [])) ≡ without_tag x (counted names) =
-              ap (without_tag x) (counted-append names n) ∙ without-more x n (counted names) h in
+          ap (without_tag x) (counted-append names n) ∙ without-more x n (counted names) h in
           (λ i. (x, suc (count i)) ∷ rest i) ∙ rw back refl)
       | false ↦ (λ h.
           let back : same_word n x ≡ false = not_back x n h in
           let count : count_of_name x (names ++ n ∷ []) ≡ count_of_name x names = count-append x names n ∙ rw h (omega arith) in
           let rest : without_tag x (counted (names ++ n ∷ [])) ≡ with_one_more n (without_tag x (counted names)) =
-              ap (without_tag x) (counted-append names n) ∙ more-without x n (counted names) h in
+          ap (without_tag x) (counted-append names n) ∙ more-without x n (counted names) h in
           (λ i. (x, suc (count i)) ∷ rest i) ∙ rw back refl)
     ] refl
 
@@ -86,7 +86,7 @@ names-append before ([] ∷ ls) l =
 names-append before ((w ∷ ws) ∷ ls) l =
     let more = before ++ (w ∷ ws) ∷ [] in
     let r : unused_names more (ls ++ l ∷ []) ≡ unused_names more ls ++ names_of (before ++ (w ∷ ws) ∷ ls) l =
-        names-append more ls l ∙ ap (λ (b : List Words). unused_names more ls ++ names_of b l) (append_assoc before ((w ∷ ws) ∷ []) ls) in
+    names-append more ls l ∙ ap (λ (b : List Words). unused_names more ls ++ names_of b l) (append_assoc before ((w ∷ ws) ∷ []) ls) in
     rw r (elim (is_read before (w ∷ ws)) as (λ b. (if b then unused_names more ls ++ names_of (before ++ (w ∷ ws) ∷ ls) l else tag_name (w ∷ ws) ∷ (unused_names more ls ++ names_of (before ++ (w ∷ ws) ∷ ls) l))
     ≡ (if b then unused_names more ls else tag_name (w ∷ ws) ∷ unused_names more ls) ++ names_of (before ++ (w ∷ ws) ∷ ls) l) [ true ↦ refl | false ↦ refl ])
 

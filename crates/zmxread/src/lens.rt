@@ -55,7 +55,11 @@ fn plain_surface() -> Surface
 }
 
 /// Takes a SURF record, which begins the next surface.
-pub fn begin_surface(surfaces: &mut ArrayVec<Surface, 64>, line: &Line<'_>, at: u32) -> Result<(), ZmxFault>
+pub fn begin_surface(
+    surfaces: &mut ArrayVec<Surface, 64>,
+    line: &Line<'_>,
+    at: u32,
+) -> Result<(), ZmxFault>
     requires { 1 < length line.now }
     ensures surfaces { OnOk result (surfaces.new.items ≡ surfaces.old.items ++ plane ∷ []) }
     ensures sound { OnOk result (SURF_fault at (length surfaces.old.items) line.now ≡ None) }

@@ -1,7 +1,6 @@
 //! Tags that aren't used, with the numbers of their lines.
 
 ghost use Rattle.std.specs.Prelude.{◌≡◌, ◌<◌, [], List, ℕ, Some, OnOk, length, slice_get};
-ghost use Rattle.std.specs.Option.{option_map};
 ghost use Rattle.zmxread.specs.Tags.{pairs_of, with_one_more};
 
 use indexmap::IndexMap;
@@ -71,14 +70,13 @@ impl Tags {
         self.counts.len()
     }
 
-    /// The tag of a number, counted from 0, with the number of its lines.
-    pub fn at(&self, i: usize) -> Option<(&Name, u64)>
-        ensures { option_map (λ p. (p.0.now.items, p.1)) result ≡ slice_get self.now i }
+    /// The tag of a number, counted from 0, which is below the count, with the number of its lines.
+    pub fn at(&self, i: usize) -> (&Name, u64)
+        requires { i < length self.now }
+        ensures { slice_get self.now i ≡ Some (result.0.now.items, result.1) }
     {
-        match self.counts.get_index(i) {
-            Some((tag, lines)) => Some((tag, *lines)),
-            None => None,
-        }
+        let (tag, lines) = self.counts.get_index(i).unwrap();
+        (tag, *lines)
     }
 
     /// Counts one more line of a tag.

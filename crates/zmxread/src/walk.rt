@@ -52,8 +52,8 @@ impl Stop {
     {
         match self {
             Stop::Missing => Stop::At(j),
-            Stop::At(i) => if i == j { self } else { Stop::Several },
-            Stop::Several => Stop::Several,
+            Stop::At(i) if i != j => Stop::Several,
+            Stop::At(_) | Stop::Several => self,
         }
     }
 }

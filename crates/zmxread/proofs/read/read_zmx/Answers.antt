@@ -17,4 +17,4 @@ pub returns-in-Err-clause-fault : goal.returns-in-Err-clause-fault
 returns-in-Err-clause-fault c =
     let e = c.text_fault.ensures in
     λ n. let m : c.in-Err.fault ≢ Memory = λ q. n (e.memory q) in
-        prescription-fault c.args.bytes.now c.in-Err.fault (c.in-Err.ensures.fault m) ∙ ap Err (sym (e.text m))
+    prescription-fault c.args.bytes.now c.in-Err.fault (c.in-Err.ensures.fault m) ∙ ap Err (sym (e.text m))

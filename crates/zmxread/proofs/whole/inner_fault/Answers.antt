@@ -13,7 +13,7 @@ returns-then-is_some c =
     let f = c.index-surfaces-j.result in
     let found : is_some c.surface_fault-fault.result ≡ true = search rules in
     sym (c.loop-j.invariant ∙ from-here image j xs f c.loop-j-test.true c.index-surfaces-j.is
-        ∙ first-some c.surface_fault-fault.result (first_fault (surface_faults image j f)) (first_fault (faults_from image (suc j) (drop (suc j) xs))) c.surface_fault-fault.ensures found)
+    ∙ first-some c.surface_fault-fault.result (first_fault (surface_faults image j f)) (first_fault (faults_from image (suc j) (drop (suc j) xs))) c.surface_fault-fault.ensures found)
 
 pub loop-j-preserved : goal.loop-j-preserved
 loop-j-preserved c =

@@ -14,11 +14,11 @@ returns-then-count-eq0-clause-passed c =
     let i = inner c.args.line.now c.requires in
     elim c.then-count-eq0.branch [
       | then-count-eq0-via-then-count-eq0 w ↦
-        let none : length r.lens.surfaces.items ≡ 0 = search rules in
-        on_ok_weaker c.pass_over.result (λ e before at. early-step c.args.at before c.args.line.now r c.pass_over.new.self i at none e) c.pass_over.ensures.unused
+          let none : length r.lens.surfaces.items ≡ 0 = search rules in
+          on_ok_weaker c.pass_over.result (λ e before at. early-step c.args.at before c.args.line.now r c.pass_over.new.self i at none e) c.pass_over.ensures.unused
       | then-count-eq0-via-else-count-eq0+then-not-is_of_surface w ↦
-        let of : is_of_surface c.args.line.now ≡ false = search rules in
-        on_ok_weaker c.pass_over.result (λ e before at. other-step c.args.at before c.args.line.now r c.pass_over.new.self i at of e) c.pass_over.ensures.unused
+          let of : is_of_surface c.args.line.now ≡ false = search rules in
+          on_ok_weaker c.pass_over.result (λ e before at. other-step c.args.at before c.args.line.now r c.pass_over.new.self i at of e) c.pass_over.ensures.unused
     ]
 
 pub returns-then-has_tag-clause-passed : goal.returns-then-has_tag-clause-passed
@@ -28,7 +28,7 @@ returns-then-has_tag-clause-passed c =
     let count : c.len-count.result ≡ length r.lens.surfaces.items = search rules in
     let some : c.len-count.result ≡ 0 → ⊥ = search rules in
     λ before at. STOP-step c.args.at before c.args.line.now r c.len-count.result c.marked-self.result
-        (inner c.args.line.now c.requires) at stop count some c.marked-self.ensures
+    (inner c.args.line.now c.requires) at stop count some c.marked-self.ensures
 
 pub returns-clause-passed : goal.returns-clause-passed
 returns-clause-passed c =
@@ -39,7 +39,7 @@ returns-clause-passed c =
     let some : c.len-count.result ≡ 0 → ⊥ = search rules in
     on_ok2 c.take_field.result
     (λ f s before at. field-step c.args.at before c.args.line.now r c.len-count.result c.deref_mut.result.now c.index-deref_mut-count.result
-        c.take_field.new.surface (inner c.args.line.now c.requires) at stop of count some c.deref_mut.ensures.value f s)
+    c.take_field.new.surface (inner c.args.line.now c.requires) at stop of count some c.deref_mut.ensures.value f s)
     c.take_field.ensures.sound c.take_field.ensures.surface
 
 pub returns-clause-fault : goal.returns-clause-fault
