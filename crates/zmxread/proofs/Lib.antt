@@ -1,0 +1,14 @@
+pub mod Blocks
+pub mod NoNumber
+pub mod Counts
+pub mod TagWords
+pub mod Lasts
+pub mod Marks
+pub mod Waves
+pub mod Unused
+pub mod LastItem
+pub mod Steps
+pub mod LensSteps
+pub mod FirstFaults
+pub mod WrittenNumbers
+pub mod FileLines

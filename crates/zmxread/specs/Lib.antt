@@ -1,0 +1,6 @@
+pub mod Changes
+pub mod Tags
+pub mod Lens
+pub mod Stops
+pub mod Readers
+pub mod File
