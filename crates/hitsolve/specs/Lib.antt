@@ -1,9 +1,12 @@
 pub mod Arrivals
 pub mod Aspheres
 pub mod Caps
+pub mod CellValues
 pub mod Encloses
 pub mod Hits
+pub mod Narrowed
 pub mod Narrowing
+pub mod Quotients
 pub mod StandardChains
 pub mod StandardCloseness
 pub mod StandardCrossings

@@ -1,7 +1,7 @@
 use Rattle.std.specs.Int.{w128}
 use Rattle.std.proofs.lemmas.Int.{to_z-of_z}
 use Rattle.hitsolve.specs.Encloses.{hit-encloses, standards-close}
-use Rattle.hitsolve.proofs.hit.hit_standard.Goals as goal
+use Rattle.hitsolve.proofs.hit.hit.Goals as goal
 
 pub returns-clause-encloses : goal.returns-clause-encloses
 returns-clause-encloses g c =
