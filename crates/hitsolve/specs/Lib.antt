@@ -1,4 +1,5 @@
 pub mod Arrivals
+pub mod AsphereCloseness
 pub mod Aspheres
 pub mod Caps
 pub mod CellValues
@@ -7,6 +8,7 @@ pub mod Hits
 pub mod Narrowed
 pub mod Narrowing
 pub mod Quotients
+pub mod Samples
 pub mod StandardChains
 pub mod StandardCloseness
 pub mod StandardCrossings

@@ -2,14 +2,14 @@
 
 ghost use Rattle.std.specs.Prelude.{◌≡◌, ℤ, pos, ◌≤◌, ◌≤ℤ◌};
 ghost use Rattle.fixdec.specs.Ends.{InCap};
-ghost use Rattle.hitsolve.specs.Narrowed.{rounds_from};
+ghost use Rattle.hitsolve.specs.Narrowed.{rounds_from, rounds_row};
 ghost use Rattle.lensmodel.specs.Rows.SlopeRounds as rows;
 ghost use Rattle.lensmodel.specs.Rows.Spans as spans;
 
-use crate::cells::{cells_of, window};
+use crate::cells::cells_of;
 use crate::line::Line;
 use crate::rounds::next;
-use crate::search::pruned;
+use crate::search::twice_pruned;
 use enclose::arith::Arith;
 use fixdec::span::Span;
 use fixdec::step::Step;
@@ -33,23 +33,19 @@ fn common(a: Span, b: Span) -> Step<Span>
 }
 
 /// The window of z, pruned twice.
-#[tactic(auto, unfolding(lensmodel::specs::Rows::SlopeRounds::pruned_window))]
 fn pruned_window<T: Arith>(f: &Face<T>, line: Line<T>, e: i128) -> Step<Span>
     requires scale { T.SCALE ≤ 15 }
     requires low { pos 0 ≤ℤ e }
     requires high { InCap e }
     ensures { result ≡ rows.pruned_window T.ops T.SCALE f.now line e }
 {
-    let cells = cells_of(f, line, e);
-    let first = val!(window(&cells));
-    let second = val!(pruned(&cells, first));
-    pruned(&cells, second)
+    twice_pruned(&cells_of(f, line, e))
 }
 
 /// The window after a round. A round that is lost leaves it as it is.
 fn narrowed<T: Arith>(a: Span, answer: &Step<T>) -> Step<Span>
     requires { T.SCALE ≤ 15 }
-    ensures { result ≡ rows.narrowed T.ops a answer.now }
+    ensures { result ≡ rows.narrowed T.ops T.SCALE a answer.now }
 {
     match answer {
         Step::Val(z) => common(z.hull(), a),
@@ -61,31 +57,46 @@ fn narrowed<T: Arith>(a: Span, answer: &Step<T>) -> Step<Span>
 /// The answer of the last round, clipped to its window.
 fn last_answer<T: Arith>(a: Span, answer: Step<T>) -> Step<T>
     requires { T.SCALE ≤ 15 }
-    ensures { result ≡ rows.last_answer T.ops a answer }
+    ensures { result ≡ rows.last_answer T.ops T.SCALE a answer }
 {
     let z = val!(answer);
     let _common = val!(common(z.hull(), a));
     z.clip(a)
 }
 
-/// The slope rounds. One that leaves the window as it is would do so again, and ends them.
-fn rounds<T: Arith>(f: &Face<T>, line: Line<T>, e: i128, window: Span) -> Step<T>
+/// The answer of the last round, with at most `left` rounds before it. One that leaves the window as it
+/// is would do so again, and ends them.
+fn rounds<T: Arith>(f: &Face<T>, line: Line<T>, e: i128, a: Span, left: u32) -> Step<T>
     requires scale { T.SCALE ≤ 15 }
     requires low { pos 0 ≤ℤ e }
     requires high { InCap e }
-    ensures { result ≡ rounds_from T.ops T.SCALE f.now line e 3 window }
+    ensures { result ≡ rounds_from T.ops T.SCALE f.now line e left a }
 {
-    let mut a = window;
-    let mut answer = next(f, line, e, a);
-    for _ in 0..EARLY_ROUNDS {
-        let narrower = val!(narrowed(a, &answer));
-        if narrower == a {
-            break;
-        }
-        a = narrower;
-        answer = next(f, line, e, a);
+    let answer = next(f, line, e, a);
+    if left == 0 {
+        return last_answer(a, answer);
     }
-    last_answer(a, answer)
+    match narrowed(a, &answer) {
+        Step::Val(narrower) => {
+            if narrower == a {
+                last_answer(a, answer)
+            } else {
+                rounds(f, line, e, narrower, left - 1)
+            }
+        }
+        Step::Empty => Step::Empty,
+        Step::Lost(why) => Step::Lost(why),
+    }
+}
+
+/// Where a line meets an even asphere: the window, and the rounds.
+fn narrowed_down<T: Arith>(f: &Face<T>, line: Line<T>, e: i128) -> Step<T>
+    requires scale { T.SCALE ≤ 15 }
+    requires low { pos 0 ≤ℤ e }
+    requires high { InCap e }
+    ensures { result ≡ rounds_row T.ops T.SCALE f.now line e }
+{
+    rounds(f, line, e, val!(pruned_window(f, line, e)), EARLY_ROUNDS)
 }
 
 /// Where a line meets an even asphere.
@@ -95,5 +106,5 @@ pub(crate) fn meet<T: Arith>(f: &Face<T>, line: Line<T>, e: i128) -> Step<T>
     requires high { InCap e }
     ensures { result ≡ rows.meet_asphere_rows T.ops T.SCALE f.now line e }
 {
-    rounds(f, line, e, val!(pruned_window(f, line, e)))
+    narrowed_down(f, line, e)
 }

@@ -4,11 +4,11 @@
 ghost use Rattle.std.specs.Prelude.{◌≡◌, ℕ, ℤ, pos, neg_ℤ, ◌≤◌, ◌≤ℤ◌};
 ghost use Rattle.fixdec.specs.Ends.{InCap};
 ghost use Rattle.fixdec.specs.IntervalOperations.{operations};
+ghost use Rattle.fixdec.specs.Scaled.{dec_span};
 ghost use Rattle.lensmodel.specs.Rows.Cells as rows;
-ghost use Rattle.lensmodel.specs.Rows.Constants.{whole_row};
 ghost use Rattle.lensmodel.specs.Rows.Crossing as crossing;
 ghost use Rattle.lensmodel.specs.Rows.Sag as sags;
-ghost use Rattle.hitsolve.specs.CellValues.{AreOrdered, CellValues, cell_values, face_of, squared_row};
+ghost use Rattle.hitsolve.specs.CellValues.{AreOrdered, CellValues, cell_values, face_of, rho_row, sags_row, squared_row, wide_sag_row};
 ghost use Rattle.sagform.specs.Polynomials as polynomials;
 
 use crate::line::Line;
@@ -28,6 +28,7 @@ use std::marker::Model;
 #[derive(Drop)]
 pub(crate) struct Cells {
     scale: u32,
+    one: Step<Span>,
     e: i128,
     c: Span,
     ck: Span,
@@ -42,7 +43,7 @@ impl Model for Cells {
 
     ghost view = { λ k. record { scale = k.scale; e = k.e; face = face_of k.c k.ck k.norm k.b; zone2 = k.zone2; line = k.line } };
 
-    ghost invariant = { λ k. (k.scale ≤ 15) × (pos 0 ≤ℤ k.e) × InCap k.e × (neg_ℤ (pos 6) ≤ℤ k.norm) × (k.norm ≤ℤ pos 6) × (pos 0 ≤ℤ k.zone2.hi) × AreOrdered (record { scale = k.scale; e = k.e; face = face_of k.c k.ck k.norm k.b; zone2 = k.zone2; line = k.line }) };
+    ghost invariant = { λ k. (k.scale ≤ 15) × (k.one ≡ dec_span k.scale (record { mant = pos 1; exp = pos 0 })) × InCap k.e × (neg_ℤ (pos 6) ≤ℤ k.norm) × (k.norm ≤ℤ pos 6) × AreOrdered (record { scale = k.scale; e = k.e; face = face_of k.c k.ck k.norm k.b; zone2 = k.zone2; line = k.line }) };
 }
 
 /// What the cells of a surface and a line use.
@@ -54,6 +55,7 @@ pub(crate) fn cells_of<T: Arith>(f: &Face<T>, line: Line<T>, e: i128) -> Cells
 {
     Cells {
         scale: T::SCALE,
+        one: scale::span(&Dec { mant: 1, exp: 0 }, T::SCALE),
         e,
         c: f.c().hull(),
         ck: f.ck().hull(),
@@ -83,20 +85,13 @@ fn squared(k: &Cells, x0: Span, p: Span, z: Span) -> Step<Span>
     iv_square(k.scale, val!(along(k, x0, p, z)))
 }
 
-/// The number 1.
-fn one(k: &Cells) -> Step<Span>
-    ensures { result ≡ whole_row (operations k.now.scale) k.now.scale (pos 1) }
-{
-    scale::span(&Dec { mant: 1, exp: 0 }, k.scale)
-}
-
 /// The sag of the conic at `rho`.
 fn conic(k: &Cells, rho: Span) -> Step<Span>
     ensures { result ≡ sags.conic_rows (operations k.now.scale) k.now.scale k.now.face rho k.now.e }
 {
     let f = val!(iv_widen(val!(iv_times(k.scale, k.c, rho)), k.e));
     let w = val!(conic_w(k, f));
-    let one = val!(one(k));
+    let one = val!(k.one);
     iv_over(k.scale, f, val!(iv_plus(k.scale, one, w)))
 }
 
@@ -104,7 +99,7 @@ fn conic(k: &Cells, rho: Span) -> Step<Span>
 fn conic_w(k: &Cells, f: Span) -> Step<Span>
     ensures { result ≡ sags.conic_w_row (operations k.now.scale) k.now.scale k.now.face f }
 {
-    let one = val!(one(k));
+    let one = val!(k.one);
     let t = val!(iv_times(k.scale, k.ck, f));
     iv_root(k.scale, val!(iv_minus(k.scale, one, t)))
 }
@@ -149,10 +144,9 @@ fn sag(k: &Cells, rho: Span) -> Step<Span>
     iv_plus(k.scale, zc, val!(iv_times(k.scale, u, v)))
 }
 
-/// The sags over an interval of z, widened.
-#[tactic(auto, unfolding(fixdec::specs::IntervalOperations::operations, lensmodel::specs::Rows::Cells::cell_rows))]
-fn cell(k: &Cells, z: Span) -> Step<Span>
-    ensures { result ≡ rows.cell_rows k.now.scale k.now.face k.now.zone2 k.now.line k.now.e z }
+/// The squares of distances from the axis within the zone, over an interval of z.
+fn rho_over(k: &Cells, z: Span) -> Step<Span>
+    ensures { result ≡ rho_row k.now z }
 {
     let x2 = val!(squared(k, k.line.x0, k.line.p, z));
     let y2 = val!(squared(k, k.line.y0, k.line.q, z));
@@ -160,13 +154,40 @@ fn cell(k: &Cells, z: Span) -> Step<Span>
         lo: 0,
         hi: k.zone2.hi,
     };
-    let rho = val!(iv_clip(val!(iv_plus(k.scale, x2, y2)), zone));
-    iv_widen(val!(sag(k, rho)), k.e)
+    iv_clip(val!(iv_plus(k.scale, x2, y2)), zone)
+}
+
+/// The sag at `rho`, widened by `e`, which is the residual.
+fn wide_sag(k: &Cells, rho: Span, e: i128) -> Step<Span>
+    requires residual { e ≡ k.now.e }
+    requires low { pos 0 ≤ℤ e }
+    requires high { InCap e }
+    ensures { result ≡ wide_sag_row k.now rho }
+{
+    iv_widen(val!(sag(k, rho)), e)
+}
+
+/// The sags over an interval of z, widened, in two steps.
+fn sags_over(k: &Cells, z: Span) -> Step<Span>
+    ensures value { result ≡ sags_row k.now z }
+    ensures ordered { AreOrdered k.now }
+{
+    let e = k.e;
+    wide_sag(k, val!(rho_over(k, z)), e)
+}
+
+/// The sags over an interval of z, widened.
+fn cell(k: &Cells, z: Span) -> Step<Span>
+    ensures value { result ≡ rows.cell_rows k.now.scale k.now.face k.now.zone2 k.now.line k.now.e z }
+    ensures ordered { AreOrdered k.now }
+{
+    sags_over(k, z)
 }
 
 /// Whether the surface may be met within an interval of z.
 pub(crate) fn keeps(k: &Cells, z: Span) -> bool
-    ensures { result ≡ rows.keeps k.now.scale k.now.face k.now.zone2 k.now.line k.now.e z }
+    ensures value { result ≡ rows.keeps k.now.scale k.now.face k.now.zone2 k.now.line k.now.e z }
+    ensures ordered { AreOrdered k.now }
 {
     match cell(k, z) {
         Step::Val(w) => w.lo <= z.hi && z.lo <= w.hi,
@@ -192,20 +213,32 @@ fn added_sizes(k: &Cells, sum: Span) -> Step<Span>
 
 /// `Bd = wd(wd(|c|*zone2 + |b1| + .. + |b8|))`.
 fn bound(k: &Cells) -> Step<Span>
-    ensures { result ≡ rows.bound_row k.now.scale k.now.face k.now.zone2 k.now.e }
+    ensures value { result ≡ rows.bound_row k.now.scale k.now.face k.now.zone2 k.now.e }
+    ensures ordered { AreOrdered k.now }
 {
     let first = val!(iv_times(k.scale, iv_size(k.c), k.zone2));
     let sum = val!(added_sizes(k, first));
     iv_widen(val!(iv_widen(sum, k.e)), k.e)
 }
 
-/// The window `[-Bd.hi, Bd.hi]`.
+/// The window `[-Bd.hi, Bd.hi]` of a bound.
+fn around(bound: Span) -> Span
+    requires { pos 0 ≤ℤ bound.hi }
+    ensures { result ≡ record { lo = neg_ℤ bound.hi; hi = bound.hi } }
+{
+    Span {
+        lo: -bound.hi,
+        hi: bound.hi,
+    }
+}
+
+/// The window of z.
 pub(crate) fn window(k: &Cells) -> Step<Span>
     ensures { result ≡ rows.window_row k.now.scale k.now.face k.now.zone2 k.now.e }
 {
-    let bound = val!(bound(k));
-    Step::Val(Span {
-        lo: -bound.hi,
-        hi: bound.hi,
-    })
+    match bound(k) {
+        Step::Val(bound) => Step::Val(around(bound)),
+        Step::Empty => Step::Empty,
+        Step::Lost(why) => Step::Lost(why),
+    }
 }

@@ -9,3 +9,5 @@ mod rounds;
 mod search;
 mod standard;
 mod terms;
+#[cfg(test)]
+mod tests;

@@ -5,7 +5,7 @@ ghost use Rattle.fixdec.specs.Ends.{InCap};
 ghost use Rattle.hitsolve.specs.Narrowed.{steepness_row, error_row};
 ghost use Rattle.lensmodel.specs.Rows.Sag as sags;
 ghost use Rattle.lensmodel.specs.Rows.SlopeRounds as rows;
-ghost use Rattle.lensmodel.specs.Rows.Spans.{up_to};
+ghost use Rattle.lensmodel.specs.Rows.Spans.{middle, up_to};
 
 use crate::line::{Line, along, rho_at};
 use crate::terms::{Terms, even_terms, quotient, values};
@@ -122,12 +122,21 @@ pub(crate) fn within_zone<T: Arith>(f: &Face<T>) -> Span
     }
 }
 
+/// The middle of a window.
+fn middle_of(a: Span) -> i128
+    ensures value { result ≡ middle a }
+    ensures low { a.lo ≤ℤ result }
+    ensures high { result ≤ℤ a.hi }
+{
+    floor_div(a.lo + a.hi, 2)
+}
+
 /// The middle of a window as a value of one number.
 fn middle_value<T: Arith>(a: Span) -> T
     requires { T.SCALE ≤ 15 }
     ensures { result ≡ rows.middle_value T.ops a }
 {
-    let middle = floor_div(a.lo + a.hi, 2);
+    let middle = middle_of(a);
     T::of_span(Span {
         lo: middle,
         hi: middle,
@@ -135,7 +144,7 @@ fn middle_value<T: Arith>(a: Span) -> T
 }
 
 /// The points of a line over a window and at its middle.
-fn points<T: Arith>(f: &Face<T>, line: Line<T>, a: Span) -> Step<Points<T>>
+fn points_at<T: Arith>(f: &Face<T>, line: Line<T>, a: Span) -> Step<Points<T>>
     requires { T.SCALE ≤ 15 }
     ensures { result ≡ rows.points_rows T.ops (rows.zone2_of T.ops f.now) line a }
 {
@@ -182,7 +191,7 @@ fn conic_sag<T: Arith>(f: T, w: T) -> Step<T>
 }
 
 /// The conic at the middle: `f* = c*rho*`, `w* = rt(wd(g*))` and `zc* = f*/(1 + w*)`.
-fn mid_conic<T: Arith>(face: &Face<T>, rho: T, e: i128) -> Step<MidConic<T>>
+fn conic_at<T: Arith>(face: &Face<T>, rho: T, e: i128) -> Step<MidConic<T>>
     requires scale { T.SCALE ≤ 15 }
     requires low { pos 0 ≤ℤ e }
     requires high { InCap e }
@@ -204,7 +213,7 @@ fn sum<T: Arith>(zc: T, u: T, v: T) -> Step<T>
 }
 
 /// The sag at the middle: `S* = zc* + (u* * V1*)`.
-fn mid_sag<T: Arith>(f: &Face<T>, u: T, zc: T) -> Step<MidSag<T>>
+fn sag_at<T: Arith>(f: &Face<T>, u: T, zc: T) -> Step<MidSag<T>>
     requires { T.SCALE ≤ 15 }
     ensures { result ≡ rows.mid_sag_rows T.ops T.SCALE f.now u zc }
 {
@@ -247,7 +256,7 @@ fn steepness<T: Arith>(t: T, b: T) -> Step<T>
 }
 
 /// `m = w + w*` and `G = 1 - (T*B)`.
-fn slope<T: Arith>(
+fn slope_of<T: Arith>(
     f: &Face<T>,
     line: Line<T>,
     at: Points<T>,
@@ -267,20 +276,20 @@ fn slope<T: Arith>(
 
 /// A round over a window, but for its last row.
 #[tactic(auto, unfolding(lensmodel::specs::Rows::SlopeRounds::round_rows))]
-fn round<T: Arith>(f: &Face<T>, line: Line<T>, e: i128, a: Span) -> Step<Round<T>>
+fn round_over<T: Arith>(f: &Face<T>, line: Line<T>, e: i128, a: Span) -> Step<Round<T>>
     requires scale { T.SCALE ≤ 15 }
     requires low { pos 0 ≤ℤ e }
     requires high { InCap e }
     ensures { result ≡ rows.round_rows T.ops T.SCALE f.now line e a }
 {
-    let at = val!(points(f, line, a));
+    let at = val!(points_at(f, line, a));
     let w = val!(w_at(f, at.rho, e));
-    let conic = val!(mid_conic(f, at.mid_rho, e));
+    let conic = val!(conic_at(f, at.mid_rho, e));
     let u = val!(at.rho.shift(f.norm()));
     let mid_u = val!(at.mid_rho.shift(f.norm()));
-    let mid = val!(mid_sag(f, mid_u, conic.sag));
+    let mid = val!(sag_at(f, mid_u, conic.sag));
     let q0 = val!(quotient(&mid.values, u));
-    let slope = val!(slope(f, line, at, w, conic.w, q0));
+    let slope = val!(slope_of(f, line, at, w, conic.w, q0));
     Step::Val(Round {
         middle: middle_value::<T>(a),
         sag: mid.sag,
@@ -320,5 +329,5 @@ pub(crate) fn next<T: Arith>(f: &Face<T>, line: Line<T>, e: i128, a: Span) -> St
     requires high { InCap e }
     ensures { result ≡ rows.next_rows T.ops T.SCALE f.now line e a }
 {
-    next_of(val!(round(f, line, e, a)), e)
+    next_of(val!(round_over(f, line, e, a)), e)
 }

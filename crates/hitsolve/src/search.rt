@@ -1,14 +1,15 @@
 //! The search of the cells of a window that are kept.
 
-ghost use Rattle.std.specs.Prelude.{◌≡◌, true, false, ◌≤◌, ◌<◌, ◌+◌, ◌≤ℤ◌};
-ghost use Rattle.hitsolve.specs.CellValues.{AreDropped, IsFirstKept, IsLastKept, keeps_in};
+ghost use Rattle.std.specs.Prelude.{◌≡◌, true, false, ◌≤◌, ◌<◌, ◌+◌, ◌-◌, ◌≤ℤ◌};
+ghost use Rattle.hitsolve.specs.CellValues.{AreDropped, IsFirstKept, IsLast, IsLastKept, keeps_in, twice_pruned_row};
 ghost use Rattle.hitsolve.specs.Narrowing.Blocks as blocks;
 ghost use Rattle.lensmodel.specs.Rows.Cells as rows;
 
-use crate::cells::{Cells, keeps};
+use crate::cells::{Cells, keeps, window};
 use fixdec::div::floor_div;
 use fixdec::span::Span;
 use fixdec::step::Step;
+use fixdec::val;
 
 /// The cells of a window.
 const CELLS: u32 = 64;
@@ -27,7 +28,8 @@ fn cut(a: Span, i: u32) -> i128
 /// `n` cells of a window from cell `i` on, as one interval.
 fn block(a: Span, i: u32, n: u32) -> Span
     requires { i + n ≤ 64 }
-    ensures { result ≡ blocks.block a i n }
+    ensures value { result ≡ blocks.block a i n }
+    ensures order { a.lo ≤ℤ a.hi }
 {
     Span {
         lo: cut(a, i),
@@ -82,19 +84,36 @@ fn last_kept(k: &Cells, a: Span, i: u32, n: u32) -> Option<u32>
     }
 }
 
+/// The last cell of a window that is kept, the first being `first`.
+fn last_from(k: &Cells, a: Span, first: u32) -> u32
+    requires range { first < 64 }
+    requires kept { keeps_in k.now (rows.cell a first) ≡ true }
+    ensures { IsLast (keeps_in k.now) a first (64 - first) result }
+{
+    last_kept(k, a, first, CELLS - first).unwrap_or(first)
+}
+
 /// The hull of the cells of a window that are kept; Empty where none is.
-#[tactic(auto, unfolding(lensmodel::specs::Rows::Cells::pruned))]
-pub(crate) fn pruned(k: &Cells, a: Span) -> Step<Span>
+fn pruned(k: &Cells, a: Span) -> Step<Span>
     ensures { result ≡ rows.pruned k.now.scale k.now.face k.now.zone2 k.now.line k.now.e a }
 {
     match first_kept(k, a, 0, CELLS) {
         None => Step::Empty,
         Some(first) => {
-            let last = last_kept(k, a, first, CELLS - first).unwrap_or(first);
-            Step::Val(Span {
-                lo: cut(a, first),
-                hi: cut(a, last + 1),
-            })
+            let last = last_from(k, a, first);
+            Step::Val(block(a, first, last + 1 - first))
         }
     }
+}
+
+/// The window of z, pruned twice. A pruning that leaves it as it is would do so again.
+pub(crate) fn twice_pruned(k: &Cells) -> Step<Span>
+    ensures { result ≡ twice_pruned_row k.now }
+{
+    let first = val!(window(k));
+    let second = val!(pruned(k, first));
+    if second == first {
+        return Step::Val(second);
+    }
+    pruned(k, second)
 }
