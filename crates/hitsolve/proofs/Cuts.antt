@@ -47,8 +47,16 @@ cut_in_bits lo hi x n d i order cl ch h ex en e =
     let low = p.low in
     let high = p.high in
     let k : unsigned_abs ((hi -ℤ lo) *ℤ x) ≤ 10 ^ 30 = rw ex (omega (arith, ints)) in
-    let f = rw (back hi (omega (arith, ints)), back lo (omega (arith, ints)), back (hi -ℤ lo) (omega (arith, ints)), back x (rw ex (omega (arith, ints))), back ((hi -ℤ lo) *ℤ x) k,
-    back n (rw en (omega (arith, ints))), ex, en) at e in
+    let f = rw (
+      back hi (omega (arith, ints)),
+      back lo (omega (arith, ints)),
+      back (hi -ℤ lo) (omega (arith, ints)),
+      back x (rw ex (omega (arith, ints))),
+      back ((hi -ℤ lo) *ℤ x) k,
+      back n (rw en (omega (arith, ints))),
+      ex,
+      en,
+    ) at e in
     let near = b.low in
     let far = b.high in
     rw (f, back lo (omega (arith, ints)), back (floor ((hi -ℤ lo) *ℤ pos i) (pos 64)) (omega (arith, ints)), back (lo +ℤ floor ((hi -ℤ lo) *ℤ pos i) (pos 64)) (omega (arith, ints))) refl

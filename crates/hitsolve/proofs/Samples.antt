@@ -1,12 +1,12 @@
 -- The sample lenses are well formed.
 use Rattle.std.proofs.Common.{◌≡◌, ℕ, zero, suc, refl, arith}
 use Rattle.std.proofs.lemmas.Int.{ints}
-use Rattle.std.specs.Prelude.{◌<◌, ◌≤ℤ◌, slice_index_or, IsTrue, All, None, ℤ, pos, negsuc, neg_ℤ}
+use Rattle.std.specs.Prelude.{◌<◌, slice_index_or, IsTrue, All, None, ℤ, pos, negsuc}
 use Rattle.fixdec.specs.Frac.{whole, ◌*Q◌}
 use Rattle.fixdec.specs.Interval.{ends, iv_widen}
 use Rattle.fixdec.specs.IntervalOperations.{operations}
 use Rattle.fixdec.specs.Scaled.{dec_floor, dec_ceil, dec_span, dec_shifted}
-use Rattle.fixdec.specs.Zone.{zone, norm, least_power}
+use Rattle.fixdec.specs.Zone.{zone, zone_span, norm, least_power}
 use Rattle.lensmodel.specs.Equations.Dispersion.{IsKnown}
 use Rattle.lensmodel.specs.Setup.Values.{plane, zero_decimal, reflects}
 use Rattle.lensmodel.specs.Setup.WellFormed.{IsWellFormed, IsWritten, IsWrittenSurface, IsSound, HasMedia, HasBox, HasGoodIndex}
@@ -15,23 +15,40 @@ use Rattle.lensmodel.specs.declared.glass.Medium.TheVariants.{Air}
 use Rattle.lensmodel.specs.declared.surface.Surface.{Surface}
 use Rattle.hitsolve.specs.Samples.{air, behind_object, bent, decimal, mirror, rimmed, sample, sphere, spherical}
 
-written : (m e : ℤ) → neg_ℤ (pos 60) ≤ℤ e → e ≤ℤ pos 30 → IsWritten (decimal m e)
-written m e l h = record { low = l; high = h }
-
 zero_written : IsWritten zero_decimal
 zero_written = record { low = omega (arith, ints); high = omega (arith, ints) }
 
 plane_written : IsWrittenSurface plane
 plane_written = record {
-  curv = zero_written; conic = zero_written; thick = zero_written; semi = tt;
-  a1 = zero_written; a2 = zero_written; a3 = zero_written; a4 = zero_written; a5 = zero_written; a6 = zero_written; a7 = zero_written; a8 = zero_written;
+  curv = zero_written;
+  conic = zero_written;
+  thick = zero_written;
+  semi = tt;
+  a1 = zero_written;
+  a2 = zero_written;
+  a3 = zero_written;
+  a4 = zero_written;
+  a5 = zero_written;
+  a6 = zero_written;
+  a7 = zero_written;
+  a8 = zero_written;
 }
 
 module _ (f : Surface) (sound : whole_fault (sample f).lens ≡ None) (known : IsWrittenSurface f) (first : HasGoodIndex (sample f) 0) (second : HasGoodIndex (sample f) 1) where
   surfaces_written : All IsWrittenSurface (behind_object f)
   surfaces_written zero d h = record {
-    curv = zero_written; conic = zero_written; thick = tt; semi = tt;
-    a1 = zero_written; a2 = zero_written; a3 = zero_written; a4 = zero_written; a5 = zero_written; a6 = zero_written; a7 = zero_written; a8 = zero_written;
+    curv = zero_written;
+    conic = zero_written;
+    thick = tt;
+    semi = tt;
+    a1 = zero_written;
+    a2 = zero_written;
+    a3 = zero_written;
+    a4 = zero_written;
+    a5 = zero_written;
+    a6 = zero_written;
+    a7 = zero_written;
+    a8 = zero_written;
   }
   surfaces_written (suc zero) d h = known
   surfaces_written (suc (suc zero)) d h = plane_written
@@ -78,23 +95,93 @@ module _ (f : Surface) (sound : whole_fault (sample f).lens ≡ None) (known : I
     index = λ j h k. index j h;
   }
 
+tenth : (m : ℤ) → IsWritten (decimal m (negsuc 0))
+tenth m = record { low = omega (arith, ints); high = omega (arith, ints) }
+
+ones : (m : ℤ) → IsWritten (decimal m (pos 0))
+ones m = record { low = omega (arith, ints); high = omega (arith, ints) }
+
+fine : (m : ℤ) → IsWritten (decimal m (negsuc 4))
+fine m = record { low = omega (arith, ints); high = omega (arith, ints) }
+
 sphere_written : IsWrittenSurface sphere
-sphere_written = record plane_written { curv = record { low = omega (arith, ints); high = omega (arith, ints) }; thick = record { low = omega (arith, ints); high = omega (arith, ints) } }
+sphere_written = record {
+  curv = tenth (pos 1);
+  conic = zero_written;
+  thick = ones (pos 10);
+  semi = tt;
+  a1 = zero_written;
+  a2 = zero_written;
+  a3 = zero_written;
+  a4 = zero_written;
+  a5 = zero_written;
+  a6 = zero_written;
+  a7 = zero_written;
+  a8 = zero_written;
+}
 
 spherical_written : IsWrittenSurface spherical
-spherical_written = record sphere_written { semi = record { low = omega (arith, ints); high = omega (arith, ints) } }
+spherical_written = record {
+  curv = tenth (pos 1);
+  conic = zero_written;
+  thick = ones (pos 10);
+  semi = ones (pos 8);
+  a1 = zero_written;
+  a2 = zero_written;
+  a3 = zero_written;
+  a4 = zero_written;
+  a5 = zero_written;
+  a6 = zero_written;
+  a7 = zero_written;
+  a8 = zero_written;
+}
 
 bent_written : IsWrittenSurface bent
-bent_written = record spherical_written { a2 = record { low = omega (arith, ints); high = omega (arith, ints) } }
+bent_written = record {
+  curv = tenth (pos 1);
+  conic = zero_written;
+  thick = ones (pos 10);
+  semi = ones (pos 8);
+  a1 = zero_written;
+  a2 = fine (pos 1);
+  a3 = zero_written;
+  a4 = zero_written;
+  a5 = zero_written;
+  a6 = zero_written;
+  a7 = zero_written;
+  a8 = zero_written;
+}
 
 rimmed_written : IsWrittenSurface rimmed
-rimmed_written = record plane_written { thick = record { low = omega (arith, ints); high = omega (arith, ints) }; semi = record { low = omega (arith, ints); high = omega (arith, ints) } }
+rimmed_written = record {
+  curv = zero_written;
+  conic = zero_written;
+  thick = ones (pos 4);
+  semi = ones (pos 5);
+  a1 = zero_written;
+  a2 = zero_written;
+  a3 = zero_written;
+  a4 = zero_written;
+  a5 = zero_written;
+  a6 = zero_written;
+  a7 = zero_written;
+  a8 = zero_written;
+}
 
 mirror_written : IsWrittenSurface mirror
-mirror_written = record plane_written {
-  curv = record { low = omega (arith, ints); high = omega (arith, ints) };
-  conic = record { low = omega (arith, ints); high = omega (arith, ints) };
-  thick = record { low = omega (arith, ints); high = omega (arith, ints) };
+mirror_written = record {
+  curv = tenth (negsuc 0);
+  conic = ones (negsuc 0);
+  thick = ones (negsuc 4);
+  semi = tt;
+  a1 = zero_written;
+  a2 = zero_written;
+  a3 = zero_written;
+  a4 = zero_written;
+  a5 = zero_written;
+  a6 = zero_written;
+  a7 = zero_written;
+  a8 = zero_written;
 }
 
 pub sphere_well_formed : IsWellFormed (sample sphere)
@@ -102,11 +189,11 @@ unfolding whole_fault operations ends iv_widen dec_floor dec_ceil dec_span
 sphere_well_formed = well_formed sphere refl sphere_written refl refl
 
 pub spherical_well_formed : IsWellFormed (sample spherical)
-unfolding whole_fault operations ends iv_widen dec_floor dec_ceil dec_span dec_shifted zone norm least_power whole ◌*Q◌
+unfolding whole_fault operations ends iv_widen dec_floor dec_ceil dec_span dec_shifted zone zone_span norm least_power whole ◌*Q◌
 spherical_well_formed = well_formed spherical refl spherical_written refl refl
 
 pub bent_well_formed : IsWellFormed (sample bent)
-unfolding whole_fault operations ends iv_widen dec_floor dec_ceil dec_span dec_shifted zone norm least_power whole ◌*Q◌
+unfolding whole_fault operations ends iv_widen dec_floor dec_ceil dec_span dec_shifted zone zone_span norm least_power whole ◌*Q◌
 bent_well_formed = well_formed bent refl bent_written refl refl
 
 pub rimmed_well_formed : IsWellFormed (sample rimmed)

@@ -52,6 +52,10 @@ pub record CellValues : Type 0 where
   pub zone2 : Ends
   pub line : Line Ends
 
+-- the same by the values that a surface has
+abbrev pub values_of : ℕ → ℤ → Ends → Ends → ℤ → List Ends → Ends → Line Ends → CellValues
+values_of scale e c ck norm b zone2 line = record { scale = scale; e = e; face = face_of c ck norm b; zone2 = zone2; line = line }
+
 -- their ends are in order, and neither the residual nor the zone is below 0
 pub record AreOrdered (k : CellValues) : Type 0 where
   pub residual : pos 0 ≤ℤ k.e

@@ -8,14 +8,17 @@ ghost use Rattle.fixdec.specs.Scaled.{dec_span};
 ghost use Rattle.lensmodel.specs.Rows.Cells as rows;
 ghost use Rattle.lensmodel.specs.Rows.Crossing as crossing;
 ghost use Rattle.lensmodel.specs.Rows.Sag as sags;
-ghost use Rattle.hitsolve.specs.CellValues.{AreOrdered, CellValues, cell_values, face_of, rho_row, sags_row, squared_row, wide_sag_row};
+ghost use Rattle.hitsolve.specs.CellValues as values;
+ghost use Rattle.hitsolve.specs.CellValues.{AreOrdered};
 ghost use Rattle.sagform.specs.Polynomials as polynomials;
 
 use crate::line::Line;
 use crate::rounds::zone2_of;
 use crate::terms::{Terms, even_terms, hulls};
 use enclose::arith::Arith;
-use enclose::spans::{iv_clip, iv_minus, iv_over, iv_plus, iv_root, iv_shift, iv_size, iv_square, iv_times, iv_widen};
+use enclose::spans::{
+    iv_clip, iv_minus, iv_over, iv_plus, iv_root, iv_shift, iv_size, iv_square, iv_times, iv_widen,
+};
 use exactdec::scale;
 use fixdec::dec::Dec;
 use fixdec::span::Span;
@@ -39,11 +42,14 @@ pub(crate) struct Cells {
 }
 
 impl Model for Cells {
-    ghost Value = { CellValues };
+    ghost Value = { values.CellValues };
 
-    ghost view = { λ k. record { scale = k.scale; e = k.e; face = face_of k.c k.ck k.norm k.b; zone2 = k.zone2; line = k.line } };
+    ghost view = { λ k. values.values_of k.scale k.e k.c k.ck k.norm k.b k.zone2 k.line };
 
-    ghost invariant = { λ k. (k.scale ≤ 15) × (k.one ≡ dec_span k.scale (record { mant = pos 1; exp = pos 0 })) × InCap k.e × (neg_ℤ (pos 6) ≤ℤ k.norm) × (k.norm ≤ℤ pos 6) × AreOrdered (record { scale = k.scale; e = k.e; face = face_of k.c k.ck k.norm k.b; zone2 = k.zone2; line = k.line }) };
+    ghost invariant = { λ k. (k.scale ≤ 15)
+        × (k.one ≡ dec_span k.scale (record { mant = pos 1; exp = pos 0 })) × InCap k.e
+        × (neg_ℤ (pos 6) ≤ℤ k.norm) × (k.norm ≤ℤ pos 6)
+        × AreOrdered (values.values_of k.scale k.e k.c k.ck k.norm k.b k.zone2 k.line) };
 }
 
 /// What the cells of a surface and a line use.
@@ -51,7 +57,7 @@ pub(crate) fn cells_of<T: Arith>(f: &Face<T>, line: Line<T>, e: i128) -> Cells
     requires scale { T.SCALE ≤ 15 }
     requires low { pos 0 ≤ℤ e }
     requires high { InCap e }
-    ensures { result ≡ cell_values T.ops T.SCALE f.now line e }
+    ensures { result ≡ values.cell_values T.ops T.SCALE f.now line e }
 {
     Cells {
         scale: T::SCALE,
@@ -80,7 +86,7 @@ fn along(k: &Cells, x0: Span, p: Span, z: Span) -> Step<Span>
 
 /// The square of a point of a line at z.
 fn squared(k: &Cells, x0: Span, p: Span, z: Span) -> Step<Span>
-    ensures { result ≡ squared_row k.now.scale x0 p z }
+    ensures { result ≡ values.squared_row k.now.scale x0 p z }
 {
     iv_square(k.scale, val!(along(k, x0, p, z)))
 }
@@ -146,7 +152,7 @@ fn sag(k: &Cells, rho: Span) -> Step<Span>
 
 /// The squares of distances from the axis within the zone, over an interval of z.
 fn rho_over(k: &Cells, z: Span) -> Step<Span>
-    ensures { result ≡ rho_row k.now z }
+    ensures { result ≡ values.rho_row k.now z }
 {
     let x2 = val!(squared(k, k.line.x0, k.line.p, z));
     let y2 = val!(squared(k, k.line.y0, k.line.q, z));
@@ -162,14 +168,14 @@ fn wide_sag(k: &Cells, rho: Span, e: i128) -> Step<Span>
     requires residual { e ≡ k.now.e }
     requires low { pos 0 ≤ℤ e }
     requires high { InCap e }
-    ensures { result ≡ wide_sag_row k.now rho }
+    ensures { result ≡ values.wide_sag_row k.now rho }
 {
     iv_widen(val!(sag(k, rho)), e)
 }
 
 /// The sags over an interval of z, widened, in two steps.
 fn sags_over(k: &Cells, z: Span) -> Step<Span>
-    ensures value { result ≡ sags_row k.now z }
+    ensures value { result ≡ values.sags_row k.now z }
     ensures ordered { AreOrdered k.now }
 {
     let e = k.e;

@@ -11,10 +11,9 @@ ghost use Rattle.lensmodel.specs.declared.setup.Setup.{Setup};
 ghost use Rattle.lensmodel.specs.declared.surface.SurfaceKind.TheVariants.{EvenAsph, Standard};
 ghost use Rattle.hitsolve.specs.Caps as caps;
 
-use crate::asphere;
 use crate::line::{Arrival, Line, along, arrive, path_to, rho_at};
 use crate::rounds::within_zone;
-use crate::standard;
+use crate::{asphere, standard};
 use enclose::arith::Arith;
 use fixdec::span::{CAP, Span};
 use fixdec::step::Step;
@@ -171,8 +170,7 @@ fn meet_on<T: Arith>(f: &Face<T>, line: Line<T>, e: i128) -> Step<T>
 }
 
 /// Where a line meets a surface: z from the vertex, the line being given by its foot in the vertex
-/// plane and its slopes. The residual is `e` units, `e` from 0 to the cap. Empty only where the line
-/// doesn't meet the surface.
+/// plane and its slopes. The residual is `e` units, `e` from 0 to the cap.
 pub fn meet<T: Arith>(f: &Face<T>, x0: T, y0: T, p: T, q: T, e: i128) -> Step<T>
     requires scale { T.SCALE ≤ 15 }
     requires low { pos 0 ≤ℤ e }
@@ -205,11 +203,16 @@ pub fn hit<T: Arith>(f: &Face<T>, r: &Ray<T>, e: i128) -> Step<Hit<T>>
     ensures exact { result ≡ hits.hit_rows T.ops T.SCALE f.now r.now e }
 
     // Every crossing of a chain that is held is held by the answer.
-    ensures encloses { (s : Setup) → IsWellFormed s → (j : ℕ) → CoversResidual T.SCALE s e → EnclosesCrossing T.member s j f.now r.now result }
+    ensures encloses { (s : Setup) → IsWellFormed s → (j : ℕ) → CoversResidual T.SCALE s e
+        → EnclosesCrossing T.member s j f.now r.now result }
 
-    // Two chains that the ray holds, on one line, cross the surface close by each other.
-    ensures close { (s : Setup) → (j : ℕ) → CoversResidual T.SCALE s e → StandardAreClose T.ops T.SCALE T.member s j f.now r.now e }
-    ensures close_asphere { (s : Setup) → IsWellFormed s → (j : ℕ) → CoversResidual T.SCALE s e → AspheresAreClose T.ops T.SCALE T.member s j f.now r.now e }
+    // Two chains that the ray holds, on one line, cross a standard surface close by each other.
+    ensures close { (s : Setup) → (j : ℕ) → CoversResidual T.SCALE s e
+        → StandardAreClose T.ops T.SCALE T.member s j f.now r.now e }
+
+    // So they cross an even asphere.
+    ensures close_asphere { (s : Setup) → IsWellFormed s → (j : ℕ) → CoversResidual T.SCALE s e
+        → AspheresAreClose T.ops T.SCALE T.member s j f.now r.now e }
 {
     hit_rows(f, r, e)
 }
