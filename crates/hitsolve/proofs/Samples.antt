@@ -9,7 +9,7 @@ use Rattle.fixdec.specs.Scaled.{dec_floor, dec_ceil, dec_span, dec_shifted}
 use Rattle.fixdec.specs.Zone.{zone, zone_span, norm, least_power}
 use Rattle.lensmodel.specs.Equations.Dispersion.{IsKnown}
 use Rattle.lensmodel.specs.Setup.Values.{plane, zero_decimal, reflects}
-use Rattle.lensmodel.specs.Setup.WellFormed.{IsWellFormed, IsWritten, IsWrittenSurface, IsSound, HasMedia, HasBox, HasGoodIndex}
+use Rattle.lensmodel.specs.Setup.WellFormed.{IsWellFormed, IsWritten, IsWrittenSurface, HasMedia, HasBox, HasGoodIndex}
 use Rattle.lensmodel.specs.Setup.WholeFaults.{whole_fault}
 use Rattle.lensmodel.specs.declared.glass.Medium.TheVariants.{Air}
 use Rattle.lensmodel.specs.declared.surface.Surface.{Surface}

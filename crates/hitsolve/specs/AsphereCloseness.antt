@@ -1,12 +1,11 @@
 -- Two chains that a ray holds, on one line, cross an even asphere close by each other.
-use Rattle.std.proofs.Common.{◌≡◌, ℕ, zero, suc, refl, sym, subst, ap, ◌∙◌, [], ◌∷◌, Bool, true, false}
-use Rattle.std.proofs.lemmas.Bool.{cond_both}
+use Rattle.std.proofs.Common.{◌≡◌, ℕ, suc, refl, sym, ◌∙◌, [], ◌∷◌, Bool, true, false}
 use Rattle.std.specs.Prelude.{ℤ, pos, neg_ℤ}
-use Rattle.fixdec.specs.Algebra.FracLaws.{≈_refl, ≈_sym, ≈_trans}
+use Rattle.fixdec.specs.Algebra.FracLaws.{≈_sym}
 use Rattle.fixdec.specs.Algebra.Inverse.{inverse, inverse_is}
 use Rattle.fixdec.specs.Algebra.Linear.{linear, linear_le, fact, name, order, no_fact, reads}
-use Rattle.fixdec.specs.Algebra.Order.{le_refl, le_trans}
-use Rattle.fixdec.specs.Algebra.OrderLaws.{le_of_lt, lt_of_lt_le, le_same_right, mul_nn, pos_nonzero, zero_le_one}
+use Rattle.fixdec.specs.Algebra.Order.{le_refl}
+use Rattle.fixdec.specs.Algebra.OrderLaws.{le_of_lt, pos_nonzero, zero_le_one}
 use Rattle.fixdec.specs.Algebra.Within.{HasSize, within_mul, within_same, within_to}
 use Rattle.fixdec.specs.Decimal.{ten_power}
 use Rattle.fixdec.specs.Ends.{Ends}
@@ -14,7 +13,6 @@ use Rattle.fixdec.specs.Frac.{Frac, ◌≈◌, ◌≤Q◌, ◌<Q◌, ◌+Q◌, �
 use Rattle.fixdec.specs.Interval.{holds_zero, iv_size, least_size, greatest_size}
 use Rattle.fixdec.specs.Member.{IsMember, Symbols}
 use Rattle.fixdec.specs.Operations.{Operations, IsLawful}
-use Rattle.fixdec.specs.declared.step.Step.TheVariants.{Val}
 use Rattle.lensmodel.specs.Claims.Closeness as claims
 use Rattle.lensmodel.specs.Claims.Enclosure.{CoversResidual, HoldsPrepared, HoldsRay}
 use Rattle.lensmodel.specs.Equations.Chain.{Chain}
@@ -27,8 +25,8 @@ use Rattle.lensmodel.specs.Rows.Start.{Incoming}
 use Rattle.lensmodel.specs.Setup.Values.{eps, surface_at}
 use Rattle.lensmodel.specs.declared.setup.Setup.{Setup}
 use Rattle.lensmodel.specs.declared.surface.SurfaceKind.TheVariants.{EvenAsph}
-use Rattle.hitsolve.specs.Aspheres.Chains.{IsOnLine, ZoneFits, eps_pos}
-use Rattle.hitsolve.specs.Aspheres.Close.{at_scale, at_scale-pos, crossing_distance, own_size, size_above}
+use Rattle.hitsolve.specs.Aspheres.Chains.{ZoneFits, eps_pos}
+use Rattle.hitsolve.specs.Aspheres.Close.{at_scale, crossing_distance, own_size}
 use Rattle.hitsolve.specs.Aspheres.CloseChains.{asphere_chains_close, asphere_steep}
 use Rattle.hitsolve.specs.Aspheres.Meeting.{HoldsLine}
 use Rattle.hitsolve.specs.StandardCloseness.{line_held, same_scaled, shared, shared_first, shared_second}

@@ -7,7 +7,7 @@ use Rattle.fixdec.specs.IntervalOperations.{operations}
 use Rattle.fixdec.specs.Operations.{Operations}
 use Rattle.fixdec.specs.Steps.{◌>>=◌}
 use Rattle.fixdec.specs.declared.step.Step.{Step}
-use Rattle.fixdec.specs.declared.step.Step.TheVariants.{Val, Empty, Lost}
+use Rattle.fixdec.specs.declared.step.Step.TheVariants.{Val, Empty}
 use Rattle.lensmodel.specs.Rows.Cells.{window_row, cell_rows, keeps, pruned, kept_hull, cell, cells, cells_from}
 use Rattle.lensmodel.specs.Rows.Crossing.{Line, along_row}
 use Rattle.lensmodel.specs.Rows.Preparation.{Prepared}

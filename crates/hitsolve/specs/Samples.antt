@@ -1,7 +1,7 @@
 -- Sample lenses of one surface in air, for the tests.
 use Rattle.std.specs.Prelude.{ℤ, pos, negsuc, true, List, [], ◌∷◌, Some, None}
 use Rattle.fixdec.specs.Decimal.{Decimal}
-use Rattle.lensmodel.specs.Setup.Values.{plane, zero_decimal}
+use Rattle.lensmodel.specs.Setup.Values.{plane}
 use Rattle.lensmodel.specs.declared.glass.Medium.{Medium}
 use Rattle.lensmodel.specs.declared.glass.Medium.TheVariants.{Air}
 use Rattle.lensmodel.specs.declared.setup.Setup.{Setup}

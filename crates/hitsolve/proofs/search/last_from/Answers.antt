@@ -1,5 +1,5 @@
-use Rattle.std.proofs.Common.{arith, sym, subst}
-use Rattle.hitsolve.specs.CellValues.{IsLast, keeps_in, last_of}
+use Rattle.std.proofs.Common.{arith}
+use Rattle.hitsolve.specs.CellValues.{keeps_in, last_of}
 use Rattle.hitsolve.proofs.search.last_from.Goals as goal
 
 pub returns : goal.returns
