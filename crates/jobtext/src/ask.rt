@@ -44,7 +44,7 @@ pub fn aim(line: &Line<'_>, at: u32, pupil: Option<Pupil>) -> Result<Ask, JobFau
     Ok(Ask::Aim { p, q, px, py, z, r })
 }
 
-/// The rays of a FAN line under the pupil in force.
+/// The rays of a FAN line under the pupil in force, from 1 to 1000 on each side.
 pub fn fan(line: &Line<'_>, at: u32, pupil: Option<Pupil>) -> Result<Ask, JobFault>
     requires { length line.now ≡ 4 }
     ensures value { IfOk result (λ a. option_map (λ s. Ask.Fan
@@ -56,7 +56,7 @@ pub fn fan(line: &Line<'_>, at: u32, pupil: Option<Pupil>) -> Result<Ask, JobFau
     Ok(Ask::Fan { p, q, n, z, r })
 }
 
-/// The rays of a SPOT line under the pupil in force.
+/// The rays of a SPOT line under the pupil in force, from 1 to 60 on each side.
 pub fn spot(line: &Line<'_>, at: u32, pupil: Option<Pupil>) -> Result<Ask, JobFault>
     requires { length line.now ≡ 4 }
     ensures value { IfOk result (λ a. option_map (λ s. Ask.Spot

@@ -1,6 +1,6 @@
 //! How many rays a job asks for.
 
-ghost use Rattle.std.specs.Prelude.{◌≡◌, ◌<◌, ◌≤◌, ◌+◌, ◌*◌, ◌^◌, nat_lt};
+ghost use Rattle.std.specs.Prelude.{◌≡◌, ◌<◌, ◌+◌, ◌*◌, ◌^◌, nat_lt};
 ghost use Rattle.lensmodel.specs.Setup.Launches.{count as ray_count, job_count};
 
 use lensmodel::job::Ask;

@@ -1,6 +1,6 @@
 //! The numbers of a line.
 
-ghost use Rattle.std.specs.Prelude.{◌≡◌, ◌<◌, ◌+◌, ℕ, pos, length, drop, true, false, None, Some, IfOk, IfErr, OnOk, OnErr, MatchOption};
+ghost use Rattle.std.specs.Prelude.{◌≡◌, ◌<◌, ◌+◌, pos, length, drop, true, false, None, Some, IfOk, IfErr, OnOk, OnErr, MatchOption};
 ghost use Rattle.fixdec.specs.Reading.{decimal_of};
 ghost use Rattle.lensmodel.specs.Files.JobFaults.{bad_decimals, has_bad, is_within};
 ghost use Rattle.lensmodel.specs.Files.Records.{decimal_at, whole_at, word_at};
@@ -16,7 +16,7 @@ pub fn decimal(line: &Line<'_>, at: u32, k: usize) -> Result<Dec, JobFault>
     requires within { k < 64 }
     requires there { k < length line.now }
     ensures value { IfOk result (λ d. decimal_of (word_at k line.now) ≡ Some d) }
-    // A bad word is behind others where it is this one, or behind this one too.
+    // Of the words from this one on one is bad where this one is, or else one behind it.
     ensures good { OnOk result (has_bad (drop k line.now) ≡ has_bad (drop (k + 1) line.now)) }
     ensures bad { OnErr result (has_bad (drop k line.now) ≡ true) }
     ensures none { OnErr result (decimal_of (word_at k line.now) ≡ None) }

@@ -23,7 +23,7 @@ pub struct Pupil {
     pub r: Dec,
 }
 
-/// The wavelength of a WAVE line, in micrometres.
+/// The wavelength of a WAVE line, in micrometres and above 0.
 pub fn wavelength(line: &Line<'_>, at: u32) -> Result<Dec, JobFault>
     requires { length line.now ≡ 2 }
     ensures value { IfOk result (λ d. d ≡ decimal_at 1 line.now) }
@@ -37,7 +37,7 @@ pub fn wavelength(line: &Line<'_>, at: u32) -> Result<Dec, JobFault>
     Ok(wave)
 }
 
-/// The residual number of a RES line.
+/// The residual number of a RES line, from 4 to 14.
 pub fn residual(line: &Line<'_>, at: u32) -> Result<u32, JobFault>
     requires { length line.now ≡ 2 }
     ensures value { IfOk result (λ n. n ≡ number_at 1 line.now) }
@@ -51,7 +51,7 @@ pub fn residual(line: &Line<'_>, at: u32) -> Result<u32, JobFault>
     whole_between(&r, 4, 14).ok_or(JobFault::Range { line: at })
 }
 
-/// The width bound of a WIDTH line.
+/// The width bound of a WIDTH line, above 0 and at most 1000.
 pub fn width(line: &Line<'_>, at: u32) -> Result<Dec, JobFault>
     requires { length line.now ≡ 2 }
     ensures value { IfOk result (λ d. d ≡ decimal_at 1 line.now) }
@@ -76,7 +76,7 @@ fn is_width(d: &Dec) -> bool
     d.mant <= pow10((3 - d.exp).unsigned_abs().min(30))
 }
 
-/// The pupil of a PUPIL line.
+/// The pupil of a PUPIL line, with a radius of at least 0.
 pub fn pupil_plane(line: &Line<'_>, at: u32) -> Result<Pupil, JobFault>
     requires { length line.now ≡ 3 }
     ensures value { IfOk result (λ s. s ≡ pupil_of line.now) }

@@ -1,6 +1,6 @@
 //! The walk along the lines of a job.
 
-ghost use Rattle.std.specs.Prelude.{◌≡◌, ◌≢◌, ◌++◌, ◌∷◌, length, pos, negsuc, unwrap_or, [], None, Some, IfOk, IfErr, OnOk};
+ghost use Rattle.std.specs.Prelude.{◌≡◌, ◌++◌, ◌∷◌, length, pos, negsuc, unwrap_or, [], None, Some, IfOk, IfErr, OnOk};
 ghost use Rattle.lensmodel.specs.Files.Job.{number_at, rays_fault};
 ghost use Rattle.lensmodel.specs.Files.JobFaults.{PUPIL_offence};
 ghost use Rattle.lensmodel.specs.Files.Records.{decimal_at};

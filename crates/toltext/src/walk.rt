@@ -1,7 +1,7 @@
 //! The walk along the lines of a box.
 
-ghost use Rattle.std.specs.Prelude.{◌≡◌, ◌++◌, ◌∷◌, ◌-◌, length, [], None, Some, IfErr, OnOk};
-ghost use Rattle.lensmodel.specs.Files.Tolerances.{record_fault, tol_of};
+ghost use Rattle.std.specs.Prelude.{◌≡◌, ◌++◌, ◌∷◌, length, [], None, Some, IfErr, OnOk};
+ghost use Rattle.lensmodel.specs.Files.Tolerances.{tol_of};
 ghost use Rattle.toltext.specs.Readers.{IsAt};
 ghost use Rattle.toltext.specs.Records.{line_fault};
 
