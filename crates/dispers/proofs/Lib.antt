@@ -1,2 +1,5 @@
 pub mod Below
+pub mod Faults
+pub mod Joined
+pub mod Lenses
 pub mod Sound
