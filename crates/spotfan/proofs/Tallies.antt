@@ -3,40 +3,16 @@ use Rattle.std.proofs.Common.{◌≡◌, ℕ, zero, suc, ◌+◌, ◌-◌, ◌<�
 use Rattle.std.proofs.lemmas.Int.{ints}
 use Rattle.std.proofs.lemmas.List.{append-nil, length-append, map-append}
 use Rattle.std.proofs.lemmas.List.Elements.{filter-append}
-use Rattle.std.proofs.lemmas.Option.{slice_get-get_or}
-use Rattle.std.specs.Prelude.{ℤ, pos, ◌+ℤ◌, Option, Some, None, map, filter, slice_get, if◌then◌else◌}
+use Rattle.std.specs.Prelude.{ℤ, pos, ◌+ℤ◌, map, filter, if◌then◌else◌}
 use Rattle.fixdec.specs.Ends.{Ends}
 use Rattle.fixdec.specs.Interval.{iv_minus, iv_clip}
 use Rattle.fixdec.specs.Steps.{◌>>=◌}
 use Rattle.fixdec.specs.declared.step.Step.{Step}
 use Rattle.fixdec.specs.declared.step.Step.TheVariants.{Val, Empty, Lost}
 use Rattle.lensmodel.specs.Rows.Spans.{positive}
-use Rattle.lensmodel.specs.Rows.Spot.{Landing, landing, landings, last_place, no_place, passes, of_each, mean_row, x_row, y_row, square_distance, square_distance_row, centroid_rows, spread_rows}
-use Rattle.lensmodel.specs.declared.row.Place.{Place}
+use Rattle.lensmodel.specs.Rows.Spot.{Landing, landing, landings, passes, of_each, mean_row, x_row, y_row, square_distance, square_distance_row, centroid_rows, spread_rows}
 use Rattle.lensmodel.specs.declared.row.Row.{Row}
 use Rattle.spotfan.specs.Sums.{total, total_of, sum_of_two, sum_with, mean_of, Sums, sums_of, counted, with_heights, with_row, centre_of, spread_of}
-
--- ---- the last place
-pub last-is : (scale : ℕ) (ps : List Place) (p : Place) → slice_get ps (length ps - 1) ≡ Some p
-    → last_place scale ps ≡ record { scale = scale; x = p.x; y = p.y }
-last-is scale [] p e = cc
-last-is scale (q ∷ []) p e = let same : q ≡ p = cc in rw same refl
-last-is scale (q ∷ r ∷ more) p e =
-    let here : length (q ∷ r ∷ more) - 1 ≡ suc (length more) = omega arith in
-    let next : length (r ∷ more) - 1 ≡ length more = omega arith in
-    last-is scale (r ∷ more) p (rw next (rw here at e))
-
-pub last-none : (scale : ℕ) (ps : List Place) → slice_get ps (length ps - 1) ≡ None
-    → last_place scale ps ≡ record { scale = scale; x = no_place; y = no_place }
-last-none scale [] e = refl
-last-none scale (q ∷ more) e =
-    let there = slice_get-get_or (q ∷ more) (length (q ∷ more) - 1) q (omega arith) in
-    cc
-
-pub last-scale : (scale : ℕ) (ps : List Place) → (last_place scale ps).scale ≡ scale
-last-scale scale [] = refl
-last-scale scale (q ∷ []) = refl
-last-scale scale (q ∷ r ∷ more) = last-scale scale (r ∷ more)
 
 -- ---- one landing more
 first_of_total : (r : Step Ends) (s : Step (List Ends))

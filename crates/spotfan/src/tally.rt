@@ -1,9 +1,13 @@
 //! The statistics of a grid: the centroid at the image, and the mean square distance from it.
 
-ghost use Rattle.std.specs.Prelude.{◌≡◌, ◌++◌, ◌+◌, ◌<◌, ◌≤◌, [], ◌∷◌, List};
-ghost use Rattle.lensmodel.specs.Claims.SpotClaims.{HoldsCentroid, HoldsSpread};
+ghost use Rattle.std.specs.Prelude.{◌≡◌, ◌++◌, ◌+◌, ◌<◌, ◌≤◌, [], ◌∷◌, List, map};
+ghost use Rattle.std.specs.List.{All};
+ghost use Rattle.lensmodel.specs.Claims.SpotClaims.{HoldsCentroid, HoldsSpread, IsTraced, Traced};
 ghost use Rattle.lensmodel.specs.Rows.Spot as spot;
+ghost use Rattle.lensmodel.specs.Setup.Values.{image};
 ghost use Rattle.lensmodel.specs.declared.row.Row.{Row as RowValue};
+ghost use Rattle.lensmodel.specs.declared.setup.Setup.{Setup};
+ghost use Rattle.spotfan.specs.Chains.{HoldsCentreOf, HoldsSpreadOf};
 ghost use Rattle.spotfan.specs.Sums.{IsSumIf, Sums, centre_of, spread_of, square_if, sums_of, with_heights, with_row};
 
 use crate::interval::{SCALE, at_12, square_distance};
@@ -116,6 +120,10 @@ impl Tally {
 
         // The means of x and of y over one point of each row that passes lie in them.
         ensures encloses { (rows : List RowValue) → self.now ≡ sums_of rows → HoldsCentroid (spot.landings rows) result }
+
+        // Of traced rays: so do the means over one whole chain of each ray that passes, where it meets the image.
+        ensures chains { (s : Setup) (rays : List Traced) → 0 < image s → All (IsTraced s) rays
+            → self.now ≡ sums_of (map (λ t. t.row) rays) → HoldsCentreOf s rays result }
     {
         self.mean_heights()
     }
@@ -138,6 +146,10 @@ impl Tally {
 
         // The mean square distance of one point of each row that passes from their mean lies in it.
         ensures encloses { (rows : List RowValue) → self.now ≡ sums_of rows → HoldsSpread (spot.landings rows) result }
+
+        // Of traced rays: so does that of one whole chain of each ray that passes, where it meets the image.
+        ensures chains { (s : Setup) (rays : List Traced) → 0 < image s → All (IsTraced s) rays
+            → self.now ≡ sums_of (map (λ t. t.row) rays) → HoldsSpreadOf s rays result }
     {
         self.mean_distance()
     }

@@ -1,6 +1,6 @@
 use Rattle.std.proofs.Common.{sym, ap}
 use Rattle.lensmodel.specs.Rows.Spot.{Landing}
-use Rattle.spotfan.proofs.Tallies.{last-is, last-none}
+use Rattle.spotfan.specs.Landings.{last-is, last-none}
 use Rattle.spotfan.proofs.tally.landing.Goals as goal
 
 pub returns-in-Some-clause-x : goal.returns-in-Some-clause-x

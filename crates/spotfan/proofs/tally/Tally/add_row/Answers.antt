@@ -1,6 +1,6 @@
 use Rattle.std.proofs.Common.{◌≡◌, true, refl, sym, ◌∙◌}
 use Rattle.lensmodel.specs.Rows.Spot.{passes}
-use Rattle.spotfan.proofs.Tallies.{last-scale}
+use Rattle.spotfan.specs.Landings.{last-scale}
 use Rattle.spotfan.proofs.tally.Tally.add_row.Goals as goal
 
 pub returns-then-is_pass : goal.returns-then-is_pass
