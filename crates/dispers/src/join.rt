@@ -67,3 +67,6 @@ fn check_setup(s: &Setup) -> Result<(), CrossFault>
     check_indices(s)?;
     check_mirrors(s)
 }
+
+#[cfg(test)]
+mod tests;

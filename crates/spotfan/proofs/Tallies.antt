@@ -1,5 +1,5 @@
 -- The sums of rows: of one row more, and the statistics that follow from them.
-use Rattle.std.proofs.Common.{◌≡◌, ℕ, zero, suc, ◌+◌, ◌-◌, ◌<◌, Bool, true, false, List, [], ◌∷◌, ◌++◌, length, refl, sym, ap, subst, ◌∙◌, arith}
+use Rattle.std.proofs.Common.{◌≡◌, ℕ, zero, suc, ◌+◌, ◌-◌, ◌<◌, Bool, true, false, List, [], ◌∷◌, ◌++◌, length, refl, sym, ap, add-zero, ◌∙◌, arith}
 use Rattle.std.proofs.lemmas.Int.{ints}
 use Rattle.std.proofs.lemmas.List.{append-nil, length-append, map-append}
 use Rattle.std.proofs.lemmas.List.Elements.{filter-append}
@@ -89,6 +89,20 @@ sums_of-append rows row = by (passes row) refl
         let none : landings (row ∷ []) ≡ [] = rw e refl in
         let all : landings (rows ++ row ∷ []) ≡ landings rows = landings-append rows row ∙ ap (λ more. landings rows ++ more) none ∙ append-nil (landings rows) in
         λ i. gathered (more i) (all i)
+
+pub rows-with_row : (s : Sums) (row : Row) → (with_row s row).rows ≡ s.rows + 1
+rows-with_row s row = by (passes row)
+  where
+    by : (b : Bool) → (if b then with_heights (counted s) (x_row (landing row)) (y_row (landing row)) else counted s).rows ≡ s.rows + 1
+    by true = refl
+    by false = refl
+
+pub passes-with_row : (s : Sums) (row : Row) → (with_row s row).passes ≡ s.passes + (if passes row then 1 else 0)
+passes-with_row s row = by (passes row)
+  where
+    by : (b : Bool) → (if b then with_heights (counted s) (x_row (landing row)) (y_row (landing row)) else counted s).passes ≡ s.passes + (if b then 1 else 0)
+    by true = refl
+    by false = sym (add-zero s.passes)
 
 -- ---- the statistics
 length_of_rest : (r : Step Ends) (s : Step (List Ends)) (n : ℕ) → ((rest : List Ends) → s ≡ Val rest → length rest ≡ n)

@@ -108,3 +108,114 @@ fn grid_point(n: u32, i: u32) -> (Ratio, Ratio)
 {
     (part(n, i / side(n)), part(n, i % side(n)))
 }
+
+#[cfg(test)]
+mod tests {
+    use super::*;
+    use std::process::Abort;
+
+    const ZERO: Dec = Dec { mant: 0, exp: 0 };
+
+    /// The pupil coordinates of a ray, each as a numerator and a denominator.
+    fn point(l: &Launch) -> (i128, u32, i128, u32) {
+        match l {
+            Launch::Plain { .. } => (0, 0, 0, 0),
+            Launch::Pupil { px, py, .. } => (px.num.mant, px.den, py.num.mant, py.den),
+        }
+    }
+
+    /// Asserts the pupil coordinates of all rays of a line.
+    fn assert_points(rt: &impl Abort, a: &Ask, points: &[(i128, u32, i128, u32)])
+        requires { IsTrue (is_ask a.now) }
+    {
+        assert_eq!(rt; count(a) as usize, points.len());
+        for (i, expected) in points.iter().enumerate() {
+            assert_eq!(rt; point(&launch(a, i as u32)), *expected);
+        }
+    }
+
+    /// How many rays of a line have the pupil coordinate 0 in x.
+    fn count_in_middle(a: &Ask) -> u32
+        requires { IsTrue (is_ask a.now) }
+    {
+        let mut found = 0_u32;
+        for i in 0..count(a) {
+            if point(&launch(a, i)).0 == 0 {
+                found = found.wrapping_add(1);
+            }
+        }
+        found
+    }
+
+    fn fan(n: u32) -> Ask
+        requires low { 1 ≤ n }
+        requires high { n ≤ 1000 }
+        ensures { IsTrue (is_ask result) }
+    {
+        Ask::Fan {
+            p: ZERO,
+            q: ZERO,
+            n,
+            z: ZERO,
+            r: ZERO,
+        }
+    }
+
+    fn spot(n: u32) -> Ask
+        requires low { 1 ≤ n }
+        requires high { n ≤ 60 }
+        ensures { IsTrue (is_ask result) }
+    {
+        Ask::Spot {
+            p: ZERO,
+            q: ZERO,
+            n,
+            z: ZERO,
+            r: ZERO,
+        }
+    }
+
+    #[test]
+    fn a_fan_goes_along_y_and_then_along_x(rt: HostRuntime) {
+        let points = [
+            (0, 1, -2, 2),
+            (0, 1, -1, 2),
+            (0, 1, 0, 2),
+            (0, 1, 1, 2),
+            (0, 1, 2, 2),
+            (-2, 2, 0, 1),
+            (-1, 2, 0, 1),
+            (0, 2, 0, 1),
+            (1, 2, 0, 1),
+            (2, 2, 0, 1),
+        ];
+        assert_points(&rt, &fan(2), &points);
+    }
+
+    #[test]
+    fn a_grid_has_x_outside_and_y_inside(rt: HostRuntime) {
+        let points = [
+            (-1, 1, -1, 1),
+            (-1, 1, 0, 1),
+            (-1, 1, 1, 1),
+            (0, 1, -1, 1),
+            (0, 1, 0, 1),
+            (0, 1, 1, 1),
+            (1, 1, -1, 1),
+            (1, 1, 0, 1),
+            (1, 1, 1, 1),
+        ];
+        assert_points(&rt, &spot(1), &points);
+    }
+
+    #[test]
+    fn ten_thousand_rays_one_by_one(rt: HostRuntime) {
+        let lines = [spot(49), fan(49), Ask::Ray { x: ZERO, y: ZERO, p: ZERO, q: ZERO }];
+        assert_eq!(rt; count(&lines[0]), 9801);
+        assert_eq!(rt; count(&lines[1]), 198);
+        assert_eq!(rt; count(&lines[2]), 1);
+        assert_eq!(rt; count_in_middle(&lines[0]), 99);
+        assert_eq!(rt; count_in_middle(&lines[1]), 100);
+        assert_eq!(rt; count_in_middle(&lines[2]), 1);
+    }
+}

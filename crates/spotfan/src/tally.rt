@@ -1,6 +1,6 @@
 //! The statistics of a grid: the centroid at the image, and the mean square distance from it.
 
-ghost use Rattle.std.specs.Prelude.{◌≡◌, ◌++◌, ◌+◌, ◌<◌, ◌≤◌, [], ◌∷◌, List, map};
+ghost use Rattle.std.specs.Prelude.{◌≡◌, ◌++◌, ◌+◌, ◌<◌, ◌≤◌, [], ◌∷◌, List, map, if◌then◌else◌};
 ghost use Rattle.std.specs.List.{All};
 ghost use Rattle.lensmodel.specs.Claims.SpotClaims.{HoldsCentroid, HoldsSpread, IsTraced, Traced};
 ghost use Rattle.lensmodel.specs.Rows.Spot as spot;
@@ -77,13 +77,22 @@ impl Tally {
         }
     }
 
+    /// How many of the rows pass.
+    pub fn passes(&self) -> u32
+        ensures { result ≡ self.now.passes }
+    {
+        self.passes
+    }
+
     /// Adds a row, whose scale is 6, 9, 12 or 15, to fewer than 10,000 others. Its last place is that
     /// of the image where it passes; else it only counts.
     pub fn add(&mut self, r: &Row)
         requires few { self.old.rows < 10_000 }
         requires low { 6 ≤ r.now.scale }
         requires high { r.now.scale ≤ 15 }
-        ensures { (rows : List RowValue) → self.old ≡ sums_of rows → self.new ≡ sums_of (rows ++ r.now ∷ []) }
+        ensures sums { (rows : List RowValue) → self.old ≡ sums_of rows → self.new ≡ sums_of (rows ++ r.now ∷ []) }
+        ensures rows { self.new.rows ≡ self.old.rows + 1 }
+        ensures passes { self.new.passes ≡ self.old.passes + (if spot.passes r.now then 1 else 0) }
     {
         self.add_row(r);
     }
@@ -162,5 +171,79 @@ impl Tally {
         let mean = val!(val!(self.squares).mean(self.passes));
         let spread = val!(iv_minus(SCALE, mean, val!(square_distance(x, y))));
         iv_clip(spread, Span { lo: 0, hi: CAP })
+    }
+}
+
+#[cfg(test)]
+mod tests {
+    use super::*;
+    use arrayvec::ArrayVec;
+    use lensmodel::row::Place;
+    use std::test::Fail;
+
+    fn around(middle: i32, margin: u8) -> Span {
+        Span {
+            lo: i128::from(middle) - i128::from(margin),
+            hi: i128::from(middle) + i128::from(margin),
+        }
+    }
+
+    /// A row at scale 6 that ends at these heights, in whole lens units.
+    fn row(word: Word, x: i8, y: i8, y_margin: u8) -> Row
+        ensures { result.scale ≡ 6 }
+    {
+        let mut places: ArrayVec<Place, 64> = ArrayVec::new();
+        places.push(Place {
+            rho: Span { lo: 0, hi: 0 },
+            x: around(i32::from(x) * 1_000_000, 14),
+            y: around(i32::from(y) * 1_000_000, y_margin),
+            z: Span { lo: -1, hi: 1 },
+            path: Span { lo: 0, hi: 0 },
+            heading: None,
+        });
+        Row {
+            scale: 6,
+            word,
+            places,
+        }
+    }
+
+    fn statistics(tally: &Tally) -> Result<(Span, Span, Span), Fail> {
+        if tally.passes() == 0 {
+            return Err("no ray passes".into());
+        }
+        match (tally.centre(), tally.spread()) {
+            (Step::Val((x, y)), Step::Val(spread)) => Ok((x, y, spread)),
+            _ => Err("lost".into()),
+        }
+    }
+
+    #[test]
+    fn a_grid_that_passes(rt: HostRuntime) -> Result<(), Fail> {
+        let mut tally = Tally::new();
+        let grid = [(-3, -3), (-3, 0), (-3, 3), (0, -3), (0, 0), (0, 3), (3, -3), (3, 0), (3, 3)];
+        for (x, y) in grid {
+            tally.add(&row(Word::Passes, x, y, 14));
+        }
+        let (x, y, spread) = statistics(&tally)?;
+        assert_eq!(rt; (x.lo, x.hi), (-14_000_000, 14_000_000));
+        assert_eq!(rt; (y.lo, y.hi), (-14_000_000, 14_000_000));
+        assert_eq!(rt; (spread.lo, spread.hi), (11_999_887_999_869, 12_000_112_000_392));
+        Ok(())
+    }
+
+    #[test]
+    fn vignetted_rays_only_count(rt: HostRuntime) -> Result<(), Fail> {
+        let mut tally = Tally::new();
+        for (x, y) in [(-3, 3), (0, 0), (0, 3), (0, 6), (3, 3)] {
+            tally.add(&row(Word::Passes, x, y, 23));
+            tally.add(&row(Word::Vignetted(1), y, y, 3));
+        }
+        assert_eq!(rt; tally.passes(), 5);
+        let (x, y, spread) = statistics(&tally)?;
+        assert_eq!(rt; (x.lo, x.hi), (-14_000_000, 14_000_000));
+        assert_eq!(rt; (y.lo, y.hi), (2_999_977_000_000, 3_000_023_000_000));
+        assert_eq!(rt; (spread.lo, spread.hi), (7_199_690_399_776, 7_200_309_600_196));
+        Ok(())
     }
 }
