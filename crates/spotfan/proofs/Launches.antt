@@ -1,5 +1,5 @@
 -- Which ray of a fan or of a grid has which number.
-use Rattle.std.proofs.Common.{◌≡◌, ℕ, zero, suc, ◌+◌, ◌-◌, ◌*◌, ◌/◌, ◌%◌, ◌<◌, ◌≤◌, List, [], ◌∷◌, ◌++◌, length, refl, sym, ap, ◌∙◌, arith}
+use Rattle.std.proofs.Common.{◌≡◌, ℕ, zero, suc, ◌+◌, ◌*◌, ◌/◌, ◌%◌, ◌<◌, List, [], ◌∷◌, ◌++◌, length, refl, sym, ap, ◌∙◌, arith}
 use Rattle.std.proofs.Math.Nat.{div-lt_iff_lt-mul}
 use Rattle.std.proofs.lemmas.Int.{ints}
 use Rattle.std.proofs.lemmas.List.{length-map}
@@ -8,7 +8,7 @@ use Rattle.std.proofs.lemmas.Option.{slice_get-map}
 use Rattle.std.specs.Option.{option_map}
 use Rattle.std.specs.Prelude.{ℤ, pos, neg_ℤ, ◌+ℤ◌, ◌-ℤ◌, Some, map, flat_map, slice_get}
 use Rattle.fixdec.specs.Decimal.{Decimal}
-use Rattle.lensmodel.specs.Setup.Launches.{middle, part, numbers_from, parts, fan, grid, launches, count}
+use Rattle.lensmodel.specs.Setup.Launches.{middle, part, numbers_from, parts, fan, grid, count}
 use Rattle.lensmodel.specs.Setup.Ratio.{Ratio}
 use Rattle.lensmodel.specs.declared.job.Ask.{Ask}
 use Rattle.lensmodel.specs.declared.job.Ask.TheVariants.{First, Seidel}

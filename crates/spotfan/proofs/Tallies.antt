@@ -1,9 +1,9 @@
 -- The sums of rows: of one row more, and the statistics that follow from them.
-use Rattle.std.proofs.Common.{◌≡◌, ℕ, zero, suc, ◌+◌, ◌-◌, ◌<◌, Bool, true, false, List, [], ◌∷◌, ◌++◌, length, refl, sym, ap, add-zero, ◌∙◌, arith}
+use Rattle.std.proofs.Common.{◌≡◌, ℕ, suc, ◌+◌, Bool, true, false, List, [], ◌∷◌, ◌++◌, length, refl, sym, ap, add-zero, ◌∙◌, arith}
 use Rattle.std.proofs.lemmas.Int.{ints}
 use Rattle.std.proofs.lemmas.List.{append-nil, length-append, map-append}
 use Rattle.std.proofs.lemmas.List.Elements.{filter-append}
-use Rattle.std.specs.Prelude.{ℤ, pos, ◌+ℤ◌, map, filter, if◌then◌else◌}
+use Rattle.std.specs.Prelude.{pos, ◌+ℤ◌, map, filter, if◌then◌else◌}
 use Rattle.fixdec.specs.Ends.{Ends}
 use Rattle.fixdec.specs.Interval.{iv_minus, iv_clip}
 use Rattle.fixdec.specs.Steps.{◌>>=◌}

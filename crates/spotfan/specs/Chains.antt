@@ -1,6 +1,6 @@
 -- What the statistics of traced rays hold: whichever whole chain is chosen for each row that passes. Cited by the tally and by
 -- the commands that print spots.
-use Rattle.std.proofs.Common.{◌≡◌, ℕ, zero, suc, ◌-◌, ◌<◌, Bool, true, false, List, [], ◌∷◌, length, get_or, refl, sym, ap, subst, arith}
+use Rattle.std.proofs.Common.{◌≡◌, ℕ, suc, ◌-◌, ◌<◌, Bool, true, false, List, [], ◌∷◌, length, get_or, refl, subst, arith}
 use Rattle.std.proofs.lemmas.List.Elements.{All-tail}
 use Rattle.std.proofs.lemmas.Option.{slice_get-get_or}
 use Rattle.std.specs.List.{All, AllZip}
@@ -10,7 +10,7 @@ use Rattle.fixdec.specs.Member.{IsMember}
 use Rattle.fixdec.specs.Steps.{OnVal}
 use Rattle.fixdec.specs.declared.step.Step.{Step}
 use Rattle.lensmodel.specs.Claims.RowClaims.{HoldsPlace}
-use Rattle.lensmodel.specs.Claims.SpotClaims.{Point, mean_x, mean_y, spread, IsIn, IsChoice, Traced, IsTraced, image_point, AreChosen, SpotHolds}
+use Rattle.lensmodel.specs.Claims.SpotClaims.{mean_x, mean_y, spread, IsIn, IsChoice, Traced, IsTraced, image_point, AreChosen, SpotHolds}
 use Rattle.lensmodel.specs.Equations.Chain.{Chain}
 use Rattle.lensmodel.specs.Equations.Chains.{IsChainTo, IsWhole}
 use Rattle.lensmodel.specs.Rows.Spot.{landing, landings, no_place, passes}

@@ -1,23 +1,23 @@
 -- The statistics of landings hold those of their points: the mean of members lies in the mean of their intervals, and the mean
 -- square distance from the mean is the mean of the squares less the square of the mean.
-use Rattle.std.proofs.Common.{◌≡◌, ℕ, zero, suc, ◌+◌, ◌-◌, ◌^◌, ◌≤◌, ◌<◌, Bool, true, false, List, [], ◌∷◌, length, refl, sym, ap, subst, arith}
+use Rattle.std.proofs.Common.{◌≡◌, ℕ, zero, suc, ◌+◌, ◌-◌, ◌^◌, ◌≤◌, Bool, true, false, List, [], ◌∷◌, length, refl, sym, ap, subst, arith}
 use Rattle.std.proofs.lemmas.Bool.Decides.{nat_tests}
 use Rattle.std.proofs.lemmas.Int.{ints}
 use Rattle.std.proofs.lemmas.List.{length-map}
 use Rattle.std.specs.List.{AllZip}
 use Rattle.std.specs.Prelude.{ℤ, pos, ◌+ℤ◌, ◌*ℤ◌, ◌-ℤ◌, ◌≤ℤ◌, map, nat_le, ◌&&◌, if◌then◌else◌}
-use Rattle.enclose.specs.IntervalLaws.{iv_plus-encloses, iv_minus-encloses, iv_square-encloses, iv_clip-encloses}
+use Rattle.enclose.specs.IntervalLaws.{iv_plus-encloses, iv_square-encloses, iv_clip-encloses}
 use Rattle.fixdec.specs.Ends.{Ends}
 use Rattle.fixdec.specs.Frac.{Frac, ◌≈◌, ◌≤Q◌, ◌+Q◌, ◌-Q◌, ◌*Q◌, whole}
-use Rattle.fixdec.specs.Interval.{ends, fits_cap, iv_plus, iv_minus, iv_square, iv_clip}
+use Rattle.fixdec.specs.Interval.{ends, fits_cap, iv_minus, iv_square}
 use Rattle.fixdec.specs.Member.{IsMember, units}
 use Rattle.fixdec.specs.Rounding.{floor, ceil}
 use Rattle.fixdec.specs.Steps.{OnVal, OnVal-then, ◌>>=◌}
-use Rattle.fixdec.specs.Algebra.FracLaws.{≈_refl, ≈_sym, ≈_trans, add_same}
+use Rattle.fixdec.specs.Algebra.FracLaws.{≈_refl, ≈_sym, ≈_trans}
 use Rattle.fixdec.specs.Algebra.Linear.{linear, name, fact, no_fact, reads}
 use Rattle.fixdec.specs.Algebra.MemberLaws.{same_law, plus_law, minus_law, divide_law, unit_pos, units_nn}
 use Rattle.fixdec.specs.Algebra.Order.{le_of_same, le_trans, le_whole}
-use Rattle.fixdec.specs.Algebra.OrderLaws.{add_nn, le_along, le_mul, le_of_lt, le_same_left, le_same_right, lt_whole, mul_nn, square_nn, whole_add, whole_mul, whole_same, zero_le_one, zero_le_whole}
+use Rattle.fixdec.specs.Algebra.OrderLaws.{add_nn, le_along, le_mul, le_same_left, le_same_right, mul_nn, square_nn, whole_add, whole_mul, whole_same, zero_le_whole}
 use Rattle.fixdec.specs.Algebra.PowerLaws.{OnVal-ends, whole_power-add}
 use Rattle.fixdec.specs.Algebra.RoundingLaws.{ceil_over, floor_under, ratio_is}
 use Rattle.fixdec.specs.declared.step.Step.{Step}
@@ -200,8 +200,8 @@ spread-is points some =
     let n = length points in
     let i = part_of n in
     let same = about_mean (sum (map (λ a. square_between a c) points)) (sum (map square_at points)) (sum (map (λ a. a.x) points)) (sum (map (λ a. a.y) points))
-      (whole (pos n)) i (mean_x points) (mean_y points)
-      (squares-sum c points) (same_if_equal (mean_by (λ a. a.x) points)) (same_if_equal (mean_by (λ a. a.y) points)) (part_is n some) in
+    (whole (pos n)) i (mean_x points) (mean_y points)
+    (squares-sum c points) (same_if_equal (mean_by (λ a. a.x) points)) (same_if_equal (mean_by (λ a. a.y) points)) (part_is n some) in
     subst (λ m. m ≈ mean (map square_at points) -Q square_at c) (sym (mean_by (λ a. square_between a c) points))
     (subst (λ m. sum (map (λ a. square_between a c) points) *Q i ≈ m -Q square_at c) (sym (mean_by square_at points)) same)
   where

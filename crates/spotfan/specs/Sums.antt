@@ -1,5 +1,5 @@
 -- What is kept of the rows of a grid: sums, from which the statistics follow. Cited by the tally.
-use Rattle.std.specs.Prelude.{◌≡◌, ℕ, ◌+◌, ◌*◌, ℤ, pos, ◌+ℤ◌, ◌≤ℤ◌, neg_ℤ, List, length, if◌then◌else◌}
+use Rattle.std.specs.Prelude.{◌≡◌, ℕ, ◌+◌, ◌*◌, pos, ◌+ℤ◌, ◌≤ℤ◌, neg_ℤ, List, length, if◌then◌else◌}
 use Rattle.fixdec.specs.Ends.{Ends}
 use Rattle.fixdec.specs.Interval.{ends, iv_minus, iv_clip}
 use Rattle.fixdec.specs.Rounding.{floor, ceil}

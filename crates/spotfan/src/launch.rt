@@ -210,7 +210,16 @@ mod tests {
 
     #[test]
     fn ten_thousand_rays_one_by_one(rt: HostRuntime) {
-        let lines = [spot(49), fan(49), Ask::Ray { x: ZERO, y: ZERO, p: ZERO, q: ZERO }];
+        let lines = [
+            spot(49),
+            fan(49),
+            Ask::Ray {
+                x: ZERO,
+                y: ZERO,
+                p: ZERO,
+                q: ZERO,
+            },
+        ];
         assert_eq!(rt; count(&lines[0]), 9801);
         assert_eq!(rt; count(&lines[1]), 198);
         assert_eq!(rt; count(&lines[2]), 1);

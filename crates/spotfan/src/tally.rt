@@ -221,14 +221,27 @@ mod tests {
     #[test]
     fn a_grid_that_passes(rt: HostRuntime) -> Result<(), Fail> {
         let mut tally = Tally::new();
-        let grid = [(-3, -3), (-3, 0), (-3, 3), (0, -3), (0, 0), (0, 3), (3, -3), (3, 0), (3, 3)];
+        let grid = [
+            (-3, -3),
+            (-3, 0),
+            (-3, 3),
+            (0, -3),
+            (0, 0),
+            (0, 3),
+            (3, -3),
+            (3, 0),
+            (3, 3),
+        ];
         for (x, y) in grid {
             tally.add(&row(Word::Passes, x, y, 14));
         }
         let (x, y, spread) = statistics(&tally)?;
         assert_eq!(rt; (x.lo, x.hi), (-14_000_000, 14_000_000));
         assert_eq!(rt; (y.lo, y.hi), (-14_000_000, 14_000_000));
-        assert_eq!(rt; (spread.lo, spread.hi), (11_999_887_999_869, 12_000_112_000_392));
+        assert_eq!(rt;
+            (spread.lo, spread.hi),
+            (11_999_887_999_869, 12_000_112_000_392)
+        );
         Ok(())
     }
 
@@ -243,7 +256,10 @@ mod tests {
         let (x, y, spread) = statistics(&tally)?;
         assert_eq!(rt; (x.lo, x.hi), (-14_000_000, 14_000_000));
         assert_eq!(rt; (y.lo, y.hi), (2_999_977_000_000, 3_000_023_000_000));
-        assert_eq!(rt; (spread.lo, spread.hi), (7_199_690_399_776, 7_200_309_600_196));
+        assert_eq!(rt;
+            (spread.lo, spread.hi),
+            (7_199_690_399_776, 7_200_309_600_196)
+        );
         Ok(())
     }
 }

@@ -1,4 +1,4 @@
-use Rattle.std.proofs.Common.{◌≡◌, ◌+◌, ◌-◌, ◌*◌, ◌<◌, ◌∙◌, arith}
+use Rattle.std.proofs.Common.{◌≡◌, ◌+◌, ◌-◌, ◌*◌, ◌<◌, arith}
 use Rattle.spotfan.proofs.Launches.{fan-front, fan-back}
 use Rattle.spotfan.proofs.launch.fan_point.Goals as goal
 

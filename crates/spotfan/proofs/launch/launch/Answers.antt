@@ -14,9 +14,9 @@ grid_point-px-requires-clause-number c = rw c.in-Spot.is at c.requires.number
 
 pub unreachable-requires : goal.unreachable-requires
 unreachable-requires c = elim c.in-First.is [
-      inl w ↦ none_of_first c.args.a.now c.args.i w.0 w.1 w.2 c.requires.number
-    | inr w ↦ none_of_seidel c.args.a.now c.args.i w.0 w.1 w.2 w.3 w.4 c.requires.number
-  ]
+  | inl w ↦ none_of_first c.args.a.now c.args.i w.0 w.1 w.2 c.requires.number
+  | inr w ↦ none_of_seidel c.args.a.now c.args.i w.0 w.1 w.2 w.3 w.4 c.requires.number
+]
 
 pub returns-in-Ray : goal.returns-in-Ray
 unfolding count launches
