@@ -1,6 +1,6 @@
 -- The first of some causes that stands, taken in parts.
 use Rattle.std.proofs.Common.{◌≡◌, ℕ, zero, suc, ◌+◌, ◌<◌, Bool, true, false, List, [], ◌∷◌, ◌++◌, length, get_or, refl, sym, arith}
-use Rattle.std.specs.Prelude.{Option, Some, None, Result, Ok, Err, if◌then◌else◌}
+use Rattle.std.specs.Prelude.{Option, Some, None, Result, Ok, Err}
 use Rattle.lensmodel.specs.Files.Causes.{or_first, fault_if, first_fault, each_from, ok_unless}
 
 -- ---- what an answer says of the cause

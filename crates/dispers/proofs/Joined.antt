@@ -1,19 +1,19 @@
 -- What is put together: which check refuses it, and that it is well formed.
-use Rattle.std.proofs.Common.{◌≡◌, ℕ, zero, suc, ◌+◌, ◌-◌, ◌<◌, ◌≤◌, Bool, true, false, List, [], ◌∷◌, ◌++◌, length, get_or, take, refl, sym, subst, arith, ◌∙◌}
+use Rattle.std.proofs.Common.{◌≡◌, ℕ, zero, suc, ◌+◌, ◌-◌, ◌<◌, Bool, true, false, List, [], ◌∷◌, ◌++◌, length, get_or, refl, arith, ◌∙◌}
 use Rattle.std.proofs.lemmas.Bool.Decides.{nat_tests}
 use Rattle.std.proofs.lemmas.List.{get_or-map, get_or-take, length-map, length-take-le}
-use Rattle.std.specs.Option.{option_map, unwrap_or}
-use Rattle.std.specs.Prelude.{Option, Some, None, Result, Ok, Err, ◌&&◌, not, nat_lt, is_none, map, slice_get, IsTrue, All, if◌then◌else◌}
+use Rattle.std.specs.Option.{unwrap_or}
+use Rattle.std.specs.Prelude.{Option, Some, None, Err, ◌&&◌, not, nat_lt, slice_get, IsTrue, All, if◌then◌else◌}
 use Rattle.fixdec.specs.Decimal.{Decimal}
 use Rattle.lensmodel.specs.Equations.Dispersion.{IsKnown}
 use Rattle.lensmodel.specs.Files.Causes.{fault_if, first_fault, each_from, ok_unless}
-use Rattle.lensmodel.specs.Files.Joining.{before_image, medium_of, medium_behind, media_of, has_used_formula, has_good_index, positive_wave, primary_wave, wave_of, setup_of, index_faults, joined_at}
+use Rattle.lensmodel.specs.Files.Joining.{before_image, medium_behind, media_of, has_used_formula, has_good_index, positive_wave, primary_wave, wave_of, setup_of, index_faults, joined_at}
 use Rattle.lensmodel.specs.Setup.Media.{has_tolerance}
 use Rattle.lensmodel.specs.Setup.Ranges.{is_positive, is_wave}
-use Rattle.lensmodel.specs.Setup.Values.{zero_decimal, surface_at, image, reflects, tolerances, plane}
+use Rattle.lensmodel.specs.Setup.Values.{surface_at, image, reflects, tolerances, plane}
 use Rattle.lensmodel.specs.Setup.WellFormed.{IsBox, IsInRange, IsSound, IsWellFormed, HasGoodIndex}
 use Rattle.lensmodel.specs.declared.fault.CrossFault.{CrossFault}
-use Rattle.lensmodel.specs.declared.fault.CrossFault.TheVariants.{NoGlass, Formula, NoWave, WaveRange, BadIndex, MirrorIndex}
+use Rattle.lensmodel.specs.declared.fault.CrossFault.TheVariants.{Formula, NoWave, BadIndex, MirrorIndex}
 use Rattle.lensmodel.specs.declared.glass.Glass.{Glass}
 use Rattle.lensmodel.specs.declared.glass.Medium.{Medium}
 use Rattle.lensmodel.specs.declared.glass.Medium.TheVariants.{Air, Of}

@@ -1,5 +1,5 @@
 -- How many surfaces a lens without a whole fault has.
-use Rattle.std.proofs.Common.{◌≡◌, ℕ, ◌≤◌, Bool, true, false, List, ◌∷◌, length, get_or, drop, ◌-◌, refl, arith}
+use Rattle.std.proofs.Common.{◌≡◌, ◌≤◌, Bool, true, false, List, ◌∷◌, length, get_or, drop, ◌-◌, refl, arith}
 use Rattle.std.proofs.lemmas.Bool.Decides.{nat_tests}
 use Rattle.std.specs.Prelude.{Option, None, nat_lt, not}
 use Rattle.lensmodel.specs.Files.Causes.{fault_if, first_fault}

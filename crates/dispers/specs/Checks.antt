@@ -1,5 +1,5 @@
 -- The cross checks of one surface, or of the medium behind it. Cited by the checks over all surfaces before the image.
-use Rattle.std.specs.Prelude.{ℕ, Bool, ◌&&◌, not, List, Option, is_none}
+use Rattle.std.specs.Prelude.{ℕ, ◌&&◌, not, List, Option, is_none}
 use Rattle.fixdec.specs.Decimal.{Decimal}
 use Rattle.lensmodel.specs.Files.Causes.{fault_if}
 use Rattle.lensmodel.specs.Files.Joining.{medium_behind, has_used_formula, is_outside, has_good_index}

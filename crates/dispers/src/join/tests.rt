@@ -35,7 +35,11 @@ fn plane(text: &str, mirror: bool) -> Surface
         curv: ZERO,
         conic: ZERO,
         thick: Some(ZERO),
-        glass: if text.is_empty() { None } else { Some(name(text)) },
+        glass: if text.is_empty() {
+            None
+        } else {
+            Some(name(text))
+        },
         semi: None,
         rim: false,
         mirror,
@@ -120,7 +124,12 @@ fn book(alloc: Global) -> Result<GlassBook, Fail> {
     let mut book = GlassBook::new(alloc);
     book.add(glass("FLAT", 1, Dec { mant: 225, exp: -2 }, None))?;
     book.add(glass("GREAT", 1, Dec { mant: 36, exp: 0 }, None))?;
-    book.add(glass("FAR", 1, Dec { mant: 225, exp: -2 }, Some(Dec { mant: 1, exp: 0 })))?;
+    book.add(glass(
+        "FAR",
+        1,
+        Dec { mant: 225, exp: -2 },
+        Some(Dec { mant: 1, exp: 0 }),
+    ))?;
     book.add(glass("ODD", 3, Dec { mant: 225, exp: -2 }, None))?;
     Ok(book)
 }
@@ -137,11 +146,26 @@ fn fault(book: &GlassBook, job: &Job, object: &str, front: &str) -> Option<Cross
 fn each_check_comes_before_the_next(rt: HostRuntime) -> Result<(), Fail> {
     let book = book(rt.alloc())?;
     let job = job(rt.alloc(), None);
-    assert_eq!(rt; fault(&book, &job, "ODD", "NONE"), Some(CrossFault::NoGlass { surface: 1 }));
-    assert_eq!(rt; fault(&book, &job, "FAR", "ODD"), Some(CrossFault::Formula { surface: 1 }));
-    assert_eq!(rt; fault(&book, &job, "GREAT", "FAR"), Some(CrossFault::WaveRange { surface: 1 }));
-    assert_eq!(rt; fault(&book, &job, "FLAT", "GREAT"), Some(CrossFault::BadIndex { surface: 1 }));
-    assert_eq!(rt; fault(&book, &job, "GREAT", "GREAT"), Some(CrossFault::BadIndex { surface: 0 }));
+    assert_eq!(rt;
+        fault(&book, &job, "ODD", "NONE"),
+        Some(CrossFault::NoGlass { surface: 1 })
+    );
+    assert_eq!(rt;
+        fault(&book, &job, "FAR", "ODD"),
+        Some(CrossFault::Formula { surface: 1 })
+    );
+    assert_eq!(rt;
+        fault(&book, &job, "GREAT", "FAR"),
+        Some(CrossFault::WaveRange { surface: 1 })
+    );
+    assert_eq!(rt;
+        fault(&book, &job, "FLAT", "GREAT"),
+        Some(CrossFault::BadIndex { surface: 1 })
+    );
+    assert_eq!(rt;
+        fault(&book, &job, "GREAT", "GREAT"),
+        Some(CrossFault::BadIndex { surface: 0 })
+    );
     assert_eq!(rt; fault(&book, &job, "flat", ""), None);
     Ok(())
 }

@@ -1,6 +1,6 @@
-use Rattle.std.proofs.Common.{refl, sym, ap, ◌∙◌}
+use Rattle.std.proofs.Common.{refl}
 use Rattle.std.proofs.lemmas.Result.{err_from_is_err_and}
-use Rattle.lensmodel.specs.Files.Causes.{each_from, first_fault, ok_unless}
+use Rattle.lensmodel.specs.Files.Causes.{each_from, first_fault}
 use Rattle.lensmodel.specs.Files.Joining.{before_image}
 use Rattle.lensmodel.specs.Setup.Values.{tolerances}
 use Rattle.dispers.specs.Checks.{range_fault, index_fault, mirror_fault}

@@ -1,7 +1,7 @@
-use Rattle.std.proofs.Common.{◌≡◌, ◌≤◌, refl, sym, ap, ◌∙◌, length, ◌-◌, ◌+◌, arith}
+use Rattle.std.proofs.Common.{◌≡◌, refl, sym, ap, ◌∙◌, ◌-◌, arith}
 use Rattle.std.proofs.lemmas.Result.{err_from_is_err_and}
-use Rattle.std.specs.Prelude.{None, Some, Option}
-use Rattle.lensmodel.specs.Files.Causes.{each_from, first_fault, ok_unless}
+use Rattle.std.specs.Prelude.{None, Some}
+use Rattle.lensmodel.specs.Files.Causes.{each_from, first_fault}
 use Rattle.lensmodel.specs.Files.Joining.{before_image, index_faults, joined, joined_at, media_of, setup_of, wave_of}
 use Rattle.arrayvec.specs.ArrayVec.{ArrayVec}
 use Rattle.lensmodel.specs.declared.glass.Medium.{Medium}
