@@ -112,21 +112,21 @@ fn with_ends(glass: &Glass, index: Span) -> Result<Picked<'_>, CrossFault>
 }
 
 /// Whether an index at scale 12 lies from 1 to 5.
-fn is_from_1_to_5(n: Span) -> bool
+pub(crate) fn is_from_1_to_5(n: Span) -> bool
     ensures { result ≡ picking.is_from_1_to_5 n }
 {
     ONE <= n.lo && n.hi <= 5 * ONE
 }
 
 /// Whether a formula is one that is used.
-fn is_used(formula: u32) -> bool
+pub(crate) fn is_used(formula: u32) -> bool
     ensures { result ≡ catalogue.is_used formula }
 {
     formula == 1 || formula == 2
 }
 
 /// Whether a wavelength is below the least, where there is one.
-fn is_under(wave: &Dec, low: &Option<Dec>) -> bool
+pub(crate) fn is_under(wave: &Dec, low: &Option<Dec>) -> bool
     ensures { result ≡ picking.is_under wave.now low.now }
 {
     match low {
@@ -136,7 +136,7 @@ fn is_under(wave: &Dec, low: &Option<Dec>) -> bool
 }
 
 /// Whether a wavelength is above the greatest, where there is one.
-fn is_over(wave: &Dec, high: &Option<Dec>) -> bool
+pub(crate) fn is_over(wave: &Dec, high: &Option<Dec>) -> bool
     ensures { result ≡ picking.is_over wave.now high.now }
 {
     match high {

@@ -1,0 +1,4 @@
+pub mod Launches
+pub mod Means
+pub mod Shifts
+pub mod Tallies

@@ -1,0 +1,4 @@
+pub mod Chains
+pub mod Encloses
+pub mod Landings
+pub mod Sums
