@@ -1,5 +1,8 @@
+mod Books
 mod Deliveries
 mod Faults
-mod Lines
+mod Gathering
+mod Lens
 mod Meaning
 mod Outcomes
+mod Parts

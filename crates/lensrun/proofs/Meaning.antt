@@ -83,7 +83,7 @@ unfolding PrintsWhenDone IsBuilt
 command-means files None b = tt
 command-means files (Some (index c)) b = index-means files c
 command-means files (Some (glass agf)) b = λ done. tt
-command-means files (Some (read zmx)) b = absurd (cc)
+command-means files (Some (read zmx)) b = λ done. tt
 command-means files (Some (trace i)) b = absurd (cc)
 command-means files (Some (trace_json i)) b = absurd (cc)
 command-means files (Some (first i)) b = absurd (cc)

@@ -7,7 +7,7 @@ use Rattle.lensmodel.specs.Call.TopCall.{Command, index, glass, read, trace, tra
 abbrev pub is_built : Command → Bool
 is_built (index c) = true
 is_built (glass agf) = true
-is_built (read zmx) = false
+is_built (read zmx) = true
 is_built (trace i) = false
 is_built (trace_json i) = false
 is_built (first i) = false

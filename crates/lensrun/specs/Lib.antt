@@ -1,4 +1,6 @@
 pub mod Asked
 pub mod Built
 pub mod Due
+pub mod Gathered
+pub mod Numbered
 pub mod Promise

@@ -1,19 +1,24 @@
 //! The writing of what is due.
 
-ghost use Rattle.std.specs.Prelude.{◌≡◌, ◌≢◌, ◌++◌, ◌≤◌, OnOk, OnErr, is_ok, if◌then◌else◌};
+ghost use Rattle.std.specs.Prelude.{◌≡◌, ◌≢◌, OnOk, OnErr, is_ok, if◌then◌else◌};
 ghost use Rattle.lensio.specs.Count.{Rose};
 ghost use Rattle.lensio.specs.Taken.{Takes, TakesFront};
 ghost use Rattle.lensmodel.specs.Texts.Book.{book_text};
+ghost use Rattle.lensmodel.specs.Texts.Lens.{lens_text};
 ghost use Rattle.lensrun.specs.Due.{due_answer, Delivers};
 
 use crate::due::Due;
+use crate::lines::{Wavelengths, gather_surfaces};
+use crate::report::{Piece, gather_line, gather_lines};
 use glassbook::book::GlassBook;
 use lensio::shelf::Failed;
 use lensio::sink::Sink;
 use lensio::transfer::put;
 use lensmodel::status::Status;
-use lensreport::glass::{print_glass, print_glasses};
+use lensreport::glass::print_glasses;
+use lensreport::lens::print_lens;
 use lensreport::pieces::Line;
+use zmxread::file::ZmxFile;
 
 /// Writes what is due, and answers how the call ends.
 pub fn deliver<K: Sink>(due: &Due, out: &mut K) -> Status
@@ -24,6 +29,7 @@ pub fn deliver<K: Sink>(due: &Due, out: &mut K) -> Status
     match due {
         Due::Line { status, text } => ended(put(out, text.as_str().as_bytes()), *status),
         Due::Glasses(book) => ended(write_book(book, out), Status::Done),
+        Due::Lens(file) => ended(write_lens(file, out), Status::Done),
         Due::Nothing => Status::Memory,
     }
 }
@@ -38,20 +44,32 @@ fn ended(written: Result<(), Failed>, status: Status) -> Status
     }
 }
 
-/// Writes the lines of a book, one after another.
+/// Writes the lines of a book.
 fn write_book<K: Sink>(book: &GlassBook, out: &mut K) -> Result<(), Failed>
     ensures ok { OnOk result (Takes (K.taken out.old) (K.taken out.new) (book_text book.now)) }
     ensures front { OnErr result (TakesFront (K.taken out.old) (K.taken out.new) (book_text book.now)) }
     ensures failed { OnErr result (Rose (K.faults out.old) (K.faults out.new)) }
     ensures taken { OnOk result (K.faults out.new ≡ K.faults out.old) }
 {
-    let mut line = Line::new();
-    print_glasses(book.count(), &mut line);
-    put(out, line.as_str().as_bytes())?;
-    for i in 0..book.count() {
-        line.clear();
-        print_glass(book.at(i), &mut line);
-        put(out, line.as_str().as_bytes())?;
-    }
-    Ok(())
+    let (mut piece, mut head) = (Piece::new(), Line::new());
+    print_glasses(book.count(), &mut head);
+    gather_line(&head, &mut piece, out)?;
+    gather_lines(book, &mut piece, out)?;
+    put(out, piece.as_str().as_bytes())
+}
+
+/// Writes the lines of a lens, and of the tags of its file that aren't used.
+fn write_lens<K: Sink>(file: &ZmxFile, out: &mut K) -> Result<(), Failed>
+    ensures ok { OnOk result (Takes (K.taken out.old) (K.taken out.new) (lens_text file.now.lens file.now.unused)) }
+    ensures front { OnErr result (TakesFront (K.taken out.old) (K.taken out.new) (lens_text file.now.lens file.now.unused)) }
+    ensures failed { OnErr result (Rose (K.faults out.old) (K.faults out.new)) }
+    ensures taken { OnOk result (K.faults out.new ≡ K.faults out.old) }
+{
+    let (mut piece, mut head) = (Piece::new(), Line::new());
+    print_lens(&file.lens, &mut head);
+    gather_line(&head, &mut piece, out)?;
+    gather_surfaces(&file.lens, &mut piece, out)?;
+    gather_lines(&Wavelengths { lens: &file.lens }, &mut piece, out)?;
+    gather_lines(&file.unused, &mut piece, out)?;
+    put(out, piece.as_str().as_bytes())
 }

@@ -1,18 +1,20 @@
 //! What a call is due to write.
 
 ghost use Rattle.std.specs.Prelude.{◌≡◌, ◌≢◌};
-ghost use Rattle.lensmodel.specs.Texts.FaultText.{usage_line, refused_line, crossed_line, agf_cause};
+ghost use Rattle.lensmodel.specs.Texts.FaultText.{usage_line, refused_line, crossed_line, agf_cause, zmx_cause};
 ghost use Rattle.lensmodel.specs.Call.Answer.{answer};
 ghost use Rattle.lensrun.specs.Due.{due_answer, unread_answer};
 
 use glassbook::book::GlassBook;
 use lensio::transfer::SlurpFault;
-use lensmodel::fault::{AgfFault, CrossFault};
+use lensmodel::fault::{AgfFault, CrossFault, ZmxFault};
 use lensmodel::status::{FileKind, Status};
 use lensreport::faults::{
-    print_absent, print_agf_fault, print_cross_fault, print_read_fault, print_too_long, print_usage,
+    print_absent, print_agf_fault, print_cross_fault, print_read_fault, print_too_long,
+    print_usage, print_zmx_fault,
 };
 use lensreport::pieces::Line;
+use zmxread::file::ZmxFile;
 
 /// What a call is due to write, and with it how the call ends where that is written.
 #[derive(Drop)]
@@ -26,6 +28,8 @@ pub enum Due {
     },
     /// The glasses of a book, with which the call is done.
     Glasses(GlassBook),
+    /// The prescription of a lens, with which the call is done.
+    Lens(ZmxFile),
     /// Nothing, for want of memory.
     Nothing,
 }
@@ -67,7 +71,7 @@ pub fn unread(file: FileKind, fault: SlurpFault) -> Due
 }
 
 /// A catalogue that is refused; nothing where memory was wanting.
-pub fn refused(fault: AgfFault) -> Due
+pub fn refused_catalogue(fault: AgfFault) -> Due
     ensures answer { fault ≢ AgfFault.Memory → due_answer result ≡ answer Status.Refused (refused_line FileKind.Agf (agf_cause fault)) }
     ensures nothing { fault ≡ AgfFault.Memory → result ≡ Due.Nothing }
 {
@@ -76,6 +80,22 @@ pub fn refused(fault: AgfFault) -> Due
     }
     let mut text = Line::new();
     print_agf_fault(fault, &mut text);
+    Due::Line {
+        status: Status::Refused,
+        text,
+    }
+}
+
+/// A lens that is refused; nothing where memory was wanting.
+pub fn refused_lens(fault: ZmxFault) -> Due
+    ensures answer { fault ≢ ZmxFault.Memory → due_answer result ≡ answer Status.Refused (refused_line FileKind.Zmx (zmx_cause fault)) }
+    ensures nothing { fault ≡ ZmxFault.Memory → result ≡ Due.Nothing }
+{
+    if fault == ZmxFault::Memory {
+        return Due::Nothing;
+    }
+    let mut text = Line::new();
+    print_zmx_fault(fault, &mut text);
     Due::Line {
         status: Status::Refused,
         text,

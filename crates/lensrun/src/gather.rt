@@ -12,7 +12,7 @@ use crate::due::{Due, unread, usage};
 use crate::words::command_of;
 use lensio::shelf::Shelf;
 use lensio::transfer::{FILE_LIMIT, slurp};
-use lensmodel::status::{FileKind, Status};
+use lensmodel::status::Status;
 use std::alloc::Global;
 
 /// What a call is due to write: takes the words, reads the files that they name, and checks them.
@@ -40,8 +40,8 @@ pub fn gather<F: Shelf>(alloc: Global, words: &[Vec<u8>], shelf: &mut F) -> Due
     let Some(command) = command_of(words) else {
         return usage();
     };
-    match slurp(alloc, shelf, command.catalogue()) {
+    match slurp(alloc, shelf, command.name()) {
         Ok(bytes) => over_bytes(alloc, &command, bytes.as_slice()),
-        Err(fault) => unread(FileKind::Agf, fault),
+        Err(fault) => unread(command.kind(), fault),
     }
 }

@@ -5,6 +5,8 @@ mod answer;
 mod deliver;
 mod due;
 mod gather;
+mod lines;
+mod report;
 pub mod run;
 #[cfg(test)]
 mod tests;

@@ -3,15 +3,16 @@
 ghost use Rattle.std.specs.Prelude.{◌≡◌, map, [], ◌∷◌, IfSome, option_map};
 ghost use Rattle.lensmodel.specs.Call.Glass as glass;
 ghost use Rattle.lensmodel.specs.Call.Index as index;
+ghost use Rattle.lensmodel.specs.Call.Read as read;
 ghost use Rattle.lensmodel.specs.Call.TopCall as top;
 ghost use Rattle.lensrun.specs.Built.{command_of, is_built};
-ghost use Rattle.lensmodel.specs.declared.status.FileKind.TheVariants.{Agf};
-ghost use Rattle.lensrun.specs.Asked.{asked, asked_if, catalogue_of, HasWavelength, name_within};
+ghost use Rattle.lensrun.specs.Asked.{asked, asked_if, kind_of, name_of, HasWavelength, name_within};
 
 use arrayvec::ArrayVec;
 use exactdec::read;
 use fixdec::dec::Dec;
 use lensmodel::name::Name;
+use lensmodel::status::FileKind;
 
 /// What the words of a call ask for.
 #[derive(Debug, Drop)]
@@ -30,17 +31,33 @@ pub enum Command<'a> {
         /// The name of the catalogue's file.
         catalogue: &'a [u8],
     },
+    /// `read ZMX`: the prescription of a lens.
+    Read {
+        /// The name of the lens's file.
+        lens: &'a [u8],
+    },
 }
 
 impl<'a> Command<'a> {
-    /// The name of the catalogue's file.
-    pub fn catalogue(&self) -> &'a [u8]
-        ensures name { result.now ≡ catalogue_of self.now }
-        ensures files { top.files_of (asked self.now) ≡ (Agf, result.now) ∷ [] }
+    /// What its file is.
+    pub fn kind(&self) -> FileKind
+        ensures { result ≡ kind_of self.now }
+    {
+        match self {
+            Command::Index { .. } | Command::Glass { .. } => FileKind::Agf,
+            Command::Read { .. } => FileKind::Zmx,
+        }
+    }
+
+    /// The name of its file.
+    pub fn name(&self) -> &'a [u8]
+        ensures name { result.now ≡ name_of self.now }
+        ensures files { top.files_of (asked self.now) ≡ (kind_of self.now, result.now) ∷ [] }
     {
         match self {
             Command::Index { catalogue, .. } => catalogue,
             Command::Glass { catalogue } => catalogue,
+            Command::Read { lens } => lens,
         }
     }
 }
@@ -112,6 +129,19 @@ fn glass_words(words: &[Vec<u8>]) -> Option<Command<'_>>
     })
 }
 
+/// The words after `read`.
+fn read_words(words: &[Vec<u8>]) -> Option<Command<'_>>
+    ensures exact { asked_if result ≡ option_map top.read (read.read_words (map (λ w. w.items) words.now)) }
+    ensures wave { IfSome result HasWavelength }
+{
+    let [lens] = words else {
+        return None;
+    };
+    Some(Command::Read {
+        lens: lens.as_slice(),
+    })
+}
+
 /// The command that the words ask for; None where they fit no command.
 pub fn command_of(words: &[Vec<u8>]) -> Option<Command<'_>>
     ensures exact { asked_if result ≡ command_of (map (λ w. w.items) words.now) }
@@ -122,6 +152,8 @@ pub fn command_of(words: &[Vec<u8>]) -> Option<Command<'_>>
         index_words(rest)
     } else if name.as_slice() == b"glass".as_slice() {
         glass_words(rest)
+    } else if name.as_slice() == b"read".as_slice() {
+        read_words(rest)
     } else {
         None
     }

@@ -21,10 +21,17 @@ const ORPHAN: &str = "CD 1 0.25\nNM POLE 2 0 1 0\n";
 
 const TWO: &str = "NM FLAT 1 0 1.5 0\nCD 2.25 0 0 0 0 0\nNM flat 2\nNM OTHER 13\nLD 0.4 0.7\n";
 
-/// A catalogue, a line of words, and the text that is due.
+const LENS: &str =
+    "SURF 0\nDISZ INFINITY\nSURF 1\nTYPE EVENASPH\nCURV 0.05\nDISZ 2.5\nGLAS FLAT\nDIAM 5 1\nPARM 2 -1e-5\nSTOP\nSURF 2\nGLAS MIRROR\nDISZ -1\nSURF 3\nWAVM 2 0.55 1\nPWAV 2\nUNIT MM\nVERS 1\nUNIT MM\n";
+
+const LENS_LINES: &str =
+    "lens surfaces 4 stop 1 primary 2\nsurf 0 STANDARD c 0 k 0 d INFINITY rim - glass -\nsurf 1 EVENASPH c 5e-2 k 0 d 25e-1 rim 5 glass FLAT\nparm 1 2 -1e-5\nzone 1 [5.500000000,5.500000000]\nsurf 2 STANDARD c 0 k 0 d -1 rim - glass MIRROR\nsurf 3 STANDARD c 0 k 0 d 0 rim - glass -\nwave 2 55e-2\nunused UNIT 2\nunused VERS 1\n";
+
+/// A file, a line of words, and the text that is due.
 type Row = (&'static str, &'static str, &'static str);
 
-const REPORTS: [Row; 8] = [
+const REPORTS: [Row; 9] = [
+    (LENS, "read F", LENS_LINES),
     (FLAT, "index F FLAT 0.5", FLAT_INDEX),
     (FLAT, "index F flat 0.5", FLAT_INDEX),
     (FLAT, "glass F", FLAT_BOOK),
@@ -55,7 +62,17 @@ const REPORTS: [Row; 8] = [
     ),
 ];
 
-const REFUSALS: [Row; 5] = [
+const REFUSALS: [Row; 7] = [
+    (
+        "SURF 0\nSURF 1\nCURV x\n",
+        "read F",
+        "refused zmx bad-number line 3 word 2\n",
+    ),
+    (
+        "SURF 0\nSURF 1\nSURF 2\n",
+        "read F",
+        "refused zmx stop-count\n",
+    ),
     (
         CROWN,
         "index F n-bk7 0.309999",
@@ -93,8 +110,12 @@ fn tables<R: Abort, L: Ledger>(rt: &R, alloc: Global, blank: Blank) -> Result<()
         let due = (Status::Refused, text);
         expect(rt, alloc, catalogue.as_bytes(), line, due, &mut steps)?;
     }
-    for line in ["index G FLAT 0.5", "glass G"] {
-        let due = (Status::Absent, "absent agf\n");
+    for (line, text) in [
+        ("index G FLAT 0.5", "absent agf\n"),
+        ("glass G", "absent agf\n"),
+        ("read G", "absent zmx\n"),
+    ] {
+        let due = (Status::Absent, text);
         expect(rt, alloc, FLAT.as_bytes(), line, due, &mut steps)?;
     }
     Ok(())
@@ -105,7 +126,9 @@ fn reports_and_refusals(rt: HostRuntime) -> Result<(), Fail> {
     tables::<HostRuntime, Brand>(&rt, rt.alloc(), Blank::new(1))
 }
 
-const MISFITS: [&str; 9] = [
+const MISFITS: [&str; 11] = [
+    "read",
+    "read F F",
     "glass",
     "glass F F",
     "Glass F",

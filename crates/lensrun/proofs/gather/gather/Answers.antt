@@ -22,7 +22,7 @@ returns-in-Ok-clause-outcome g c =
       | inl nothing ↦ absurd (subst (λ (d : Due). IsDecided (due_answer d).status) nothing decided)
       | inr due ↦
           read_outcome (g.F.Shelf.held c.args.shelf.now) (said c.args.words.now) c.in-Some.command c.in-Ok.bytes.items
-          (due_answer c.over_bytes.result) c.in-Some.ensures.exact (rw (← c.catalogue.ensures.name) c.in-Ok.ensures.bytes) (omega (arith, c.in-Ok.ensures.within))
+          (due_answer c.over_bytes.result) c.in-Some.ensures.exact (rw (← c.name.ensures.name) c.in-Ok.ensures.bytes) (omega (arith, c.in-Ok.ensures.within))
           (due ∙ ap (bytes_answer c.in-Some.command) c.as_slice.ensures.value)
     ]
 
@@ -31,12 +31,12 @@ unfolding said
 returns-in-Err-clause-outcome g c =
     λ decided. unread_outcome (g.F.Shelf.held c.args.shelf.now) (said c.args.words.now) c.in-Some.command c.in-Err.fault
     (due_answer c.unread.result) c.in-Some.ensures.exact
-    (λ is. rw (← c.catalogue.ensures.name) (c.in-Err.ensures.lacks (ap Err is)))
-    (λ is. rw (← c.catalogue.ensures.name) (c.in-Err.ensures.too_long (ap Err is)))
-    c.unread.ensures.answer decided
+    (λ is. rw (← c.name.ensures.name) (c.in-Err.ensures.lacks (ap Err is)))
+    (λ is. rw (← c.name.ensures.name) (c.in-Err.ensures.too_long (ap Err is)))
+    (rw (← c.kind.ensures) c.unread.ensures.answer) decided
 
 pub returns-in-Err-clause-read_fault_text : goal.returns-in-Err-clause-read_fault_text
 unfolding said
 returns-in-Err-clause-read_fault_text g c =
     read_fault_text (said c.args.words.now) c.in-Some.command c.in-Err.fault (due_answer c.unread.result)
-    c.in-Some.ensures.exact c.unread.ensures.answer
+    c.in-Some.ensures.exact (rw (← c.kind.ensures) c.unread.ensures.answer)
