@@ -73,7 +73,8 @@ pub(crate) fn check_indices(s: &Setup) -> Result<(), CrossFault>
     requires media { length s.now.media.items + 1 ≡ length s.now.lens.surfaces.items }
     requires known { All IsKnown s.now.media.items }
     requires toler { IsBox (values.image s.now) (values.tolerances s.now.toler) }
-    ensures { result ≡ ok_unless (first_fault (each_from (checks.index_fault s.now) 0 (joining.before_image s.now.lens))) tt }
+    ensures { let surfaces = joining.before_image s.now.lens in
+        result ≡ ok_unless (first_fault (each_from (checks.index_fault s.now) 0 surfaces)) tt }
 {
     for (j, surface) in before_image(&s.lens).iter().enumerate() {
         if !surface.mirror && !is_good(index_behind(s, j as u32)) {
@@ -87,7 +88,9 @@ pub(crate) fn check_indices(s: &Setup) -> Result<(), CrossFault>
 pub(crate) fn check_mirrors(s: &Setup) -> Result<(), CrossFault>
     requires some { 0 < length s.now.lens.surfaces.items }
     requires surfaces { length s.now.lens.surfaces.items ≤ 64 }
-    ensures { result ≡ ok_unless (first_fault (each_from (checks.mirror_fault (values.tolerances s.now.toler)) 0 (joining.before_image s.now.lens))) tt }
+    ensures { let surfaces = joining.before_image s.now.lens in
+        let tolerances = values.tolerances s.now.toler in
+        result ≡ ok_unless (first_fault (each_from (checks.mirror_fault tolerances) 0 surfaces)) tt }
 {
     for (j, surface) in before_image(&s.lens).iter().enumerate() {
         if surface.mirror && has_index_tolerance(tolerances(&s.toler), j as u32) {

@@ -89,7 +89,8 @@ fn fan_point(n: u32, i: u32) -> (Ratio, Ratio)
     requires some { 1 ≤ n }
     requires most { n ≤ 1000 }
     requires number { i < 2 * (2 * n + 1) }
-    ensures { (through : Fraction → Fraction → Start) → slice_get (launches.fan through n) i ≡ Some (through result.0 result.1) }
+    ensures { (through : Fraction → Fraction → Start)
+        → slice_get (launches.fan through n) i ≡ Some (through result.0 result.1) }
 {
     let middle = whole_ratio(Dec { mant: 0, exp: 0 });
     if i < side(n) {
@@ -104,7 +105,8 @@ fn grid_point(n: u32, i: u32) -> (Ratio, Ratio)
     requires some { 1 ≤ n }
     requires most { n ≤ 60 }
     requires number { i < (2 * n + 1) * (2 * n + 1) }
-    ensures { (through : Fraction → Fraction → Start) → slice_get (launches.grid through n) i ≡ Some (through result.0 result.1) }
+    ensures { (through : Fraction → Fraction → Start)
+        → slice_get (launches.grid through n) i ≡ Some (through result.0 result.1) }
 {
     (part(n, i / side(n)), part(n, i % side(n)))
 }

@@ -35,7 +35,8 @@ impl Model for Tally {
 
     ghost view = { λ t. record { rows = t.rows; passes = t.passes; x = t.x; y = t.y; squares = t.squares } };
 
-    ghost invariant = { λ t. (t.passes ≤ t.rows) × (t.rows ≤ 10_000) × IsSumIf t.passes t.x × IsSumIf t.passes t.y × IsSumIf t.passes t.squares };
+    ghost invariant = { λ t. (t.passes ≤ t.rows) × (t.rows ≤ 10_000)
+        × IsSumIf t.passes t.x × IsSumIf t.passes t.y × IsSumIf t.passes t.squares };
 }
 
 /// Whether a word says that its ray passes.
@@ -128,7 +129,8 @@ impl Tally {
         ensures exact { (rows : List RowValue) → self.now ≡ sums_of rows → result ≡ spot.centroid rows }
 
         // The means of x and of y over one point of each row that passes lie in them.
-        ensures encloses { (rows : List RowValue) → self.now ≡ sums_of rows → HoldsCentroid (spot.landings rows) result }
+        ensures encloses { (rows : List RowValue) → self.now ≡ sums_of rows
+            → HoldsCentroid (spot.landings rows) result }
 
         // Of traced rays: so do the means over one whole chain of each ray that passes, where it meets the image.
         ensures chains { (s : Setup) (rays : List Traced) → 0 < image s → All (IsTraced s) rays
@@ -154,7 +156,8 @@ impl Tally {
         ensures exact { (rows : List RowValue) → self.now ≡ sums_of rows → result ≡ spot.mean_square rows }
 
         // The mean square distance of one point of each row that passes from their mean lies in it.
-        ensures encloses { (rows : List RowValue) → self.now ≡ sums_of rows → HoldsSpread (spot.landings rows) result }
+        ensures encloses { (rows : List RowValue) → self.now ≡ sums_of rows
+            → HoldsSpread (spot.landings rows) result }
 
         // Of traced rays: so does that of one whole chain of each ray that passes, where it meets the image.
         ensures chains { (s : Setup) (rays : List Traced) → 0 < image s → All (IsTraced s) rays
