@@ -4,7 +4,7 @@ use Rattle.std.specs.Prelude.{ℤ}
 use Rattle.fixdec.specs.Frac.{Frac}
 use Rattle.fixdec.specs.Member.{IsMember, Symbols}
 use Rattle.fixdec.specs.Operations.{Operations, IsLawful}
-use Rattle.lensmodel.specs.Claims.Closeness.{StandardAreClose}
+use Rattle.lensmodel.specs.Claims.Closeness.{AspheresAreClose, StandardAreClose}
 use Rattle.lensmodel.specs.Claims.Enclosure.{CoversResidual, EnclosesCrossing, HoldsPrepared, HoldsRay}
 use Rattle.lensmodel.specs.Equations.Chain.{Chain}
 use Rattle.lensmodel.specs.Equations.Crossing.{Transfers}
@@ -17,6 +17,7 @@ use Rattle.lensmodel.specs.Setup.Values.{travel}
 use Rattle.lensmodel.specs.Setup.WellFormed.{IsWellFormed}
 use Rattle.lensmodel.specs.declared.setup.Setup.{Setup}
 use Rattle.hitsolve.specs.Arrivals.{side_holds}
+use Rattle.hitsolve.specs.AsphereCloseness.{aspheres_close}
 use Rattle.hitsolve.specs.Aspheres.Zones.{zone_fits}
 use Rattle.hitsolve.specs.Caps.{IsInCap, CapsCrossed, clips_within_cap}
 use Rattle.hitsolve.specs.Hits.{hit_rows-encloses}
@@ -36,3 +37,8 @@ module _ {A : Type 0} (scale : ℕ) (o : Operations A) (member : A → Symbols �
 
   pub standards-close : (s : Setup) (j : ℕ) → CoversResidual scale s e → StandardAreClose o scale member s j face ray e
   standards-close s j covers = standards_close scale o member law s j e covers face ray (on_side s j)
+
+  pub aspheres-close : (s : Setup) → IsWellFormed s → (j : ℕ) → CoversResidual scale s e → AspheresAreClose o scale member s j face ray e
+  aspheres-close s well j covers kind arrival rows window last r round missed gap a b ha hb on =
+      aspheres_close scale o member law s j e covers face ray (on_side s j) (λ k. zone_fits s well j (sym ha.prepared.kind ∙ k))
+      kind arrival rows window last r round missed gap a b ha hb on

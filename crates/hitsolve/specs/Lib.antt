@@ -1,9 +1,14 @@
 pub mod Arrivals
+pub mod AsphereCloseness
 pub mod Aspheres
 pub mod Caps
+pub mod CellValues
 pub mod Encloses
 pub mod Hits
+pub mod Narrowed
 pub mod Narrowing
+pub mod Quotients
+pub mod Samples
 pub mod StandardChains
 pub mod StandardCloseness
 pub mod StandardCrossings

@@ -29,7 +29,7 @@ use Rattle.hitsolve.specs.Aspheres.Meeting.{HoldsLine}
 use Rattle.hitsolve.specs.StandardChains.{standard_chains_close}
 
 -- a raw number as a fraction, written in either way
-same_scaled : (scale : ℕ) (n : ℤ) → at_scale scale n ≈ claims.at_scale scale n
+pub same_scaled : (scale : ℕ) (n : ℤ) → at_scale scale n ≈ claims.at_scale scale n
 unfolding whole ◌*Q◌
 same_scaled zero n = linear (whole n ∷ []) _ _ (search reads depth 20 fits 4000) no_fact tt
 same_scaled (suc k) n = ≈_refl (claims.at_scale (suc k) n)
@@ -46,8 +46,23 @@ times_root limit r q z w p e h =
     }
 
 -- the line that two chains share
-abbrev shared : (j : ℕ) (a b : Chain) → claims.AreOnLine j a b → Line Frac
+abbrev pub shared : (j : ℕ) (a b : Chain) → claims.AreOnLine j a b → Line Frac
 shared j a b on = record { x0 = a.x (suc j) -Q on.p *Q a.z (suc j); y0 = a.y (suc j) -Q on.q *Q a.z (suc j); p = on.p; q = on.q }
+
+-- both come along it
+pub shared_first : (j : ℕ) (a b : Chain) (on : claims.AreOnLine j a b) → IsOnLine a j (shared j a b on)
+shared_first j a b on = record {
+  x = linear (a.x (suc j) ∷ a.z (suc j) ∷ on.p ∷ []) _ _ (search reads depth 20 fits 4000) no_fact tt;
+  y = linear (a.y (suc j) ∷ a.z (suc j) ∷ on.q ∷ []) _ _ (search reads depth 20 fits 4000) no_fact tt;
+}
+
+pub shared_second : (j : ℕ) (a b : Chain) (on : claims.AreOnLine j a b) → IsOnLine b j (shared j a b on)
+shared_second j a b on = record {
+  x = linear (a.x (suc j) ∷ a.z (suc j) ∷ b.x (suc j) ∷ b.z (suc j) ∷ on.p ∷ []) _ _ (search reads depth 20 fits 4000)
+      (fact (whole (pos 1)) (≈_sym on.line_x) (search reads depth 20 fits 4000) no_fact) tt;
+  y = linear (a.y (suc j) ∷ a.z (suc j) ∷ b.y (suc j) ∷ b.z (suc j) ∷ on.q ∷ []) _ _ (search reads depth 20 fits 4000)
+      (fact (whole (pos 1)) (≈_sym on.line_y) (search reads depth 20 fits 4000) no_fact) tt;
+}
 
 -- a slope is the cosine over that along the axis
 slope_is : (p n l t : Frac) → whole (pos 0) <Q t *Q n → p *Q n ≈ l → l *Q inverse n ≈ p
@@ -59,7 +74,7 @@ slope_is p n l t h e =
 module _ {A : Type 0} (scale : ℕ) (o : Operations A) (member : A → Symbols → Frac → Type 0) (law : IsLawful scale o member)
     (s : Setup) (j : ℕ) (e : ℤ) (covers : CoversResidual scale s e) (face : Prepared A) (ray : Incoming A)
     (side : (c : Chain) → HoldsPrepared member s c j face → HoldsRay member c j ray → Transfers s c j → IsMember scale (side_of face.sign) (c.n j)) where
-  line_held : (a b : Chain) (ha : claims.ArrivesIn member s j face ray a) (on : claims.AreOnLine j a b) (arrival : Arrival A) → arrival_rows o face ray e ≡ Val arrival
+  pub line_held : (a b : Chain) (ha : claims.ArrivesIn member s j face ray a) (on : claims.AreOnLine j a b) (arrival : Arrival A) → arrival_rows o face ray e ≡ Val arrival
       → HoldsLine member a.symbols (shared j a b on) arrival.line
   line_held a b ha on arrival rows =
       let t = ha.transfer in
@@ -80,18 +95,8 @@ module _ {A : Type 0} (scale : ℕ) (o : Operations A) (member : A → Symbols �
   pub standards_close : claims.StandardAreClose o scale member s j face ray e
   standards_close kind arrival rows k roots least a b ha hb on =
       let l = shared j a b on in
-      let first : IsOnLine a j l = record {
-        x = linear (a.x (suc j) ∷ a.z (suc j) ∷ on.p ∷ []) _ _ (search reads depth 20 fits 4000) no_fact tt;
-        y = linear (a.y (suc j) ∷ a.z (suc j) ∷ on.q ∷ []) _ _ (search reads depth 20 fits 4000) no_fact tt;
-      } in
-      let second : IsOnLine b j l = record {
-        x = linear (a.x (suc j) ∷ a.z (suc j) ∷ b.x (suc j) ∷ b.z (suc j) ∷ on.p ∷ []) _ _ (search reads depth 20 fits 4000)
-            (fact (whole (pos 1)) (≈_sym on.line_x) (search reads depth 20 fits 4000) no_fact) tt;
-        y = linear (a.y (suc j) ∷ a.z (suc j) ∷ b.y (suc j) ∷ b.z (suc j) ∷ on.q ∷ []) _ _ (search reads depth 20 fits 4000)
-            (fact (whole (pos 1)) (≈_sym on.line_y) (search reads depth 20 fits 4000) no_fact) tt;
-      } in
       let r0 = (o.hull k.r).lo in
       times_root (eps s) (at_scale scale r0) (claims.at_scale scale r0) (a.z (suc j)) (b.z (suc j)) (at_scale-pos scale r0 least) (same_scaled scale r0)
       (standard_chains_close scale o member law s j (sym ha.prepared.kind ∙ kind) e covers a face ha.prepared l arrival.line (line_held a b ha on arrival rows)
-      first (record { p = on.slope_x_a; q = on.slope_y_a }) ha.transfer.onwards ha.crossing
-      b (sym on.symbols) second (record { p = on.slope_x_b; q = on.slope_y_b }) hb.transfer.onwards hb.crossing k roots least)
+      (shared_first j a b on) (record { p = on.slope_x_a; q = on.slope_y_a }) ha.transfer.onwards ha.crossing
+      b (sym on.symbols) (shared_second j a b on) (record { p = on.slope_x_b; q = on.slope_y_b }) hb.transfer.onwards hb.crossing k roots least)

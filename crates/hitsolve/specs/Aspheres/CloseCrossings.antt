@@ -4,7 +4,8 @@ use Rattle.std.specs.Prelude.{ℤ, pos}
 use Rattle.fixdec.specs.Algebra.FracLaws.{≈_trans}
 use Rattle.fixdec.specs.Algebra.Inverse.{inverse}
 use Rattle.fixdec.specs.Algebra.Linear.{linear, no_fact, reads}
-use Rattle.fixdec.specs.Algebra.OrderLaws.{le_of_lt}
+use Rattle.fixdec.specs.Algebra.Order.{le_trans}
+use Rattle.fixdec.specs.Algebra.OrderLaws.{le_of_lt, lt_of_lt_le}
 use Rattle.fixdec.specs.Algebra.Within.{HasSize, within_add, within_mul, within_nn, within_same, within_sub, within_to}
 use Rattle.fixdec.specs.Decimal.{ten_power}
 use Rattle.fixdec.specs.Ends.{Ends}
@@ -37,7 +38,7 @@ module _ {A : Type 0} (scale : ℕ) (o : Operations A) (member : A → Symbols �
     (f : Asphere) (unit : f.zone2 ≤Q ten_power f.power) (face : Prepared A) (hf : HoldsAsphere member sy f face) (hz : IsMember scale (zone2_of o face) f.zone2)
     (l : Line Frac) (line : Line A) (hl : HoldsLine member sy l line)
     (a : Ends) (r : Round A) (d : A) (window : last_window o scale face line e ≡ Val a) (round : round_rows o scale face line e a ≡ Val r)
-    (missed : o.minus r.sag r.middle ≡ Val d) (apart : holds_zero (o.hull r.m) ≡ false) where
+    (missed : o.minus r.sag r.middle ≡ Val d) where
   -- the middle, a bound for the sag of the conic, and a fraction near the root, for all crossings
   abbrev s : Frac
   s = mid_of scale a
@@ -92,9 +93,9 @@ module _ {A : Type 0} (scale : ℕ) (o : Operations A) (member : A → Symbols �
       gap = size_high scale (o.hull d) _ (law.hull sy d _ (on_val (λ x. member x sy _) missed (law.minus sy r.sag r.middle _ s in_round.sag in_round.middle)));
     }
 
-    about : IsAbout v z
+    about : holds_zero (o.hull r.m) ≡ false → IsAbout v z
     unfolding M
-    about =
+    about apart =
         let p = in_round.root.positive in
         let hm = law.hull sy r.m _ in_round.m in
         let hg = law.hull sy r.g _ in_round.g in
@@ -114,14 +115,32 @@ module _ {A : Type 0} (scale : ℕ) (o : Operations A) (member : A → Symbols �
               (linear ((mid_sag f l z zc s v -Q s) ∷ sag_miss f l z zc s v ∷ conic_error f l z zc s v ∷ J ∷ []) _ _ (search reads depth 20 fits 4000) no_fact tt);
         }
 
-  -- the two crossings
-  pub crossings_close : (z1 zc1 z2 zc2 : Frac) → Meets eps f l z1 zc1 → Meets eps f l z2 zc2 → HasSize (crossing_distance eps most g h m) (z1 -Q z2)
-  crossings_close z1 zc1 z2 zc2 m1 m2 =
+  -- where there is a crossing: the slope is above 0, and so is the size of m where it holds no 0
+  pub record IsSteep : Type 0 where
+    pub least : whole (pos 0) <Q g
+    pub greatest : whole (pos 0) <Q h
+    pub apart : holds_zero (o.hull r.m) ≡ false → whole (pos 0) <Q m
+
+  pub steep : (z zc : Frac) → Meets eps f l z zc → IsSteep
+  steep z zc meets =
+      let w = root_if eps bound (mid_g f (rho_at l s)) some (within_nn (conic_sag_size eps f l z zc meets unit)) in
+      let k = in_round w.0 w.1 z zc meets in
+      let hg = law.hull sy r.g _ k.g in
+      let p = (seen w.0 w.1 z zc meets).g_pos in
+      record {
+        least = p;
+        greatest = lt_of_lt_le p (le_trans (member_low scale (o.hull r.g) _ hg) (member_high scale (o.hull r.g) _ hg));
+        apart = λ d. at_scale-pos scale _ (size_above scale (o.hull r.m) _ (law.hull sy r.m _ k.m) d);
+      }
+
+  -- the two crossings, where m holds no 0
+  pub crossings_close : holds_zero (o.hull r.m) ≡ false → (z1 zc1 z2 zc2 : Frac) → Meets eps f l z1 zc1 → Meets eps f l z2 zc2 → HasSize (crossing_distance eps most g h m) (z1 -Q z2)
+  crossings_close apart z1 zc1 z2 zc2 m1 m2 =
       let w = root_if eps bound (mid_g f (rho_at l s)) some (within_nn (conic_sag_size eps f l z1 zc1 m1 unit)) in
       let v = w.0 in
       let S = mid_conic_sag f (rho_at l s) v +Q u_at f l s *Q polynomial f.b (u_at f l s) in
-      let a1 = about v w.1 z1 zc1 m1 in
-      let a2 = about v w.1 z2 zc2 m2 in
+      let a1 = about v w.1 z1 zc1 m1 apart in
+      let a2 = about v w.1 z2 zc2 m2 apart in
       let seen1 = seen v w.1 z1 zc1 m1 in
       within_to (linear (eps ∷ most ∷ inverse g ∷ inverse h ∷ inverse m ∷ []) _ _ (search reads depth 20 fits 4000) no_fact tt)
       (within_same (linear (z1 ∷ z2 ∷ s ∷ []) _ _ (search reads depth 20 fits 4000) no_fact tt)

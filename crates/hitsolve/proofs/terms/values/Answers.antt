@@ -1,0 +1,6 @@
+use Rattle.std.proofs.Common.{sym, ◌∙◌}
+use Rattle.hitsolve.specs.Quotients.{values_are}
+use Rattle.hitsolve.proofs.terms.values.Goals as goal
+
+pub returns : goal.returns
+returns g c = c.values_down.ensures ∙ sym (values_are g.T.Arith.ops g.T.Arith.SCALE c.args.u c.args.b.now)
