@@ -1,1 +1,11 @@
+pub mod Departures
+pub mod Enclosing
+pub mod Filled
+pub mod Goings
+pub mod OutcomeLaws
+pub mod Readies
+pub mod Rims
 pub mod StartLaws
+pub mod Turns
+pub mod WalkLaws
+pub mod Words

@@ -1,0 +1,5 @@
+use Rattle.skewtrace.specs.Goings.{Reaches}
+use Rattle.skewtrace.proofs.trace.walk.Given as goal
+
+abbrev pub invariant-loop-j : goal.invariant-loop-j
+invariant-loop-j g l = Reaches g.T.Arith.ops g.T.Arith.SCALE g.T.Arith.member l.s l.fn.start l.trail.rims l.trail.places.items l.j l.ray
