@@ -8,8 +8,9 @@ use std::alloc::Global;
 use std::test::Fail;
 
 /// A lens of three surfaces, as a maker's program writes it.
-const MADE: &[u8] =
-    b"VERS 140124 0\r\nMODE SEQ\r\nUNIT MM X W X CM MR CPMM\r\nWAVM 1 0.55 1\r\nPWAV 1\r\nSURF 0\r\n  DISZ INFINITY\r\nSURF 1\r\n  STOP\r\n  COMM front\r\n  HIDE 0 0 0\r\n  TYPE STANDARD\r\n  CURV 0.0 0 0 0 0 \"\"\r\n  DISZ 4\r\n  DIAM 5 0 0 0 1 \"\"\r\nSURF 2\r\n  TYPE STANDARD\r\n";
+fn made() -> &'static [u8] {
+    b"VERS 140124 0\r\nMODE SEQ\r\nUNIT MM X W X CM MR CPMM\r\nWAVM 1 0.55 1\r\nPWAV 1\r\nSURF 0\r\n  DISZ INFINITY\r\nSURF 1\r\n  STOP\r\n  COMM front\r\n  HIDE 0 0 0\r\n  TYPE STANDARD\r\n  CURV 0.0 0 0 0 0 \"\"\r\n  DISZ 4\r\n  DIAM 5 0 0 0 1 \"\"\r\nSURF 2\r\n  TYPE STANDARD\r\n"
+}
 
 fn fault(alloc: Global, bytes: &[u8]) -> Option<ZmxFault> {
     read_zmx(alloc, bytes).err()
@@ -55,7 +56,7 @@ fn empty_files(rt: HostRuntime) {
 
 #[test]
 fn wide_units(rt: HostRuntime) -> Result<(), Fail> {
-    let bytes = wide(rt.alloc(), MADE)?;
+    let bytes = wide(rt.alloc(), made())?;
     let file = read_zmx(rt.alloc(), bytes.as_slice())?;
     let lens = &file.lens;
     assert_eq!(rt; lens.surfaces.len(), 3);
@@ -73,7 +74,7 @@ fn wide_units(rt: HostRuntime) -> Result<(), Fail> {
 
 #[test]
 fn unused_tags(rt: HostRuntime) -> Result<(), Fail> {
-    let file = read_zmx(rt.alloc(), MADE)?;
+    let file = read_zmx(rt.alloc(), made())?;
     assert_eq!(rt; file.unused.count(), 3);
     assert_eq!(rt; file.unused.at(0).0.as_slice(), [86, 69, 82, 83].as_slice());
     assert_eq!(rt; file.unused.at(2).0.as_slice(), [72, 73, 68, 69].as_slice());
@@ -90,20 +91,18 @@ fn unused_tags(rt: HostRuntime) -> Result<(), Fail> {
 /// half a unit.
 #[test]
 fn cut_files(rt: HostRuntime) -> Result<(), Fail> {
-    let bytes = wide(rt.alloc(), MADE)?;
-    assert_eq!(rt; bytes.len(), 2 * MADE.len() + 2);
-    assert_eq!(rt;
-        fault(rt.alloc(), &bytes.as_slice()[..1]),
-        Some(ZmxFault::TooFewSurfaces)
-    );
-    for i in 0..MADE.len() {
-        let even = &bytes.as_slice()[..2 * i + 2];
-        let odd = &bytes.as_slice()[..2 * i + 3];
-        assert_eq!(rt; fault(rt.alloc(), even), fault(rt.alloc(), &MADE[..i]));
+    let narrow = made();
+    let mut front = wide(rt.alloc(), b"")?;
+    assert_eq!(rt; fault(rt.alloc(), b"\xFF"), Some(ZmxFault::TooFewSurfaces));
+    for i in 0..narrow.len() {
         assert_eq!(rt;
-            fault(rt.alloc(), odd),
-            Some(ZmxFault::Text(TextFault::OddByte))
+            fault(rt.alloc(), front.as_slice()),
+            fault(rt.alloc(), &narrow[..i])
         );
+        front.push(narrow[i])?;
+        let half = Some(ZmxFault::Text(TextFault::OddByte));
+        assert_eq!(rt; fault(rt.alloc(), front.as_slice()), half);
+        front.push(0)?;
     }
     Ok(())
 }
