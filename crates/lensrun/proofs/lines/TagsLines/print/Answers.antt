@@ -6,5 +6,5 @@ use Rattle.lensrun.proofs.lines.TagsLines.print.Goals as goal
 
 pub returns : goal.returns
 returns c =
-    slice_get-map unused_line c.args.self.now c.args.i ∙ ap (option_map unused_line) c.at.ensures
-    ∙ ap Some (sym (c.print_unused.ensures ∙ append-nil (unused_line (c.at.result.0.now.items, c.at.result.1))))
+    slice_get-map unused_line c.args.self.now c.args.i ∙ ap (option_map unused_line) c.at-lines.ensures
+    ∙ ap Some (sym (c.print_unused.ensures ∙ append-nil (unused_line (c.at-lines.result.0.now.items, c.at-lines.result.1))))
