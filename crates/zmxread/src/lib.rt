@@ -8,7 +8,5 @@ mod numbers;
 pub mod read;
 mod surface;
 pub mod tags;
-#[cfg(test)]
-mod tests;
 mod walk;
 mod whole;
