@@ -2,7 +2,8 @@
 use Rattle.std.proofs.Common.{◌≡◌, ◌≢◌, ◌⊎◌, ℕ, List, subst, ap, sym, refl, ◌∙◌, inl, inr}
 use Rattle.std.specs.Prelude.{Option}
 use Rattle.lensio.specs.Taken.{Takes, TakesFront}
-use Rattle.lensmodel.specs.Call.Answer.{Files, Answer}
+use Rattle.lensio.specs.Held.{Files}
+use Rattle.lensmodel.specs.Call.Answer.{Contents, Answer}
 use Rattle.lensrun.specs.Built.{command_of, outcome}
 use Rattle.lensmodel.specs.declared.status.Status.{Status}
 use Rattle.lensmodel.specs.declared.status.Status.TheVariants.{Done, Usage, Refused, Absent, ReadFault, TooLong, WriteFault, Memory}
@@ -12,7 +13,7 @@ use Rattle.lensrun.proofs.Meaning.{outcome-means}
 use Rattle.lensrun.proofs.Outcomes.{OfFiles-map}
 
 -- an outcome that was delivered is what was due
-due_if_taken : (said : List (List ℕ)) (a : Answer) (ended : Status) (old new : Option (List ℕ)) (files : Files)
+due_if_taken : (said : List (List ℕ)) (a : Answer) (ended : Status) (old new : Option (List ℕ)) (files : Contents)
     → ended ≡ a.status → Takes old new a.text → a ≡ outcome files said → IsDue said ended old new files
 due_if_taken said a ended old new files e t is = record {
   status = e ∙ ap (λ (x : Answer). x.status) is;

@@ -3,7 +3,7 @@ use Rattle.std.proofs.Common.{◌≡◌, ℕ, Bool, true, false, List, [], ◌�
 use Rattle.std.specs.Prelude.{nat_lt}
 use Rattle.dispers.specs.IndexAt12.{index_at_12-holds}
 use Rattle.dispers.specs.Picked.{IsPicked, known_if_used, picked-is}
-use Rattle.lensmodel.specs.Call.Answer.{Files, Answer, answer, on_file, on_read, on_checked}
+use Rattle.lensmodel.specs.Call.Answer.{Contents, Answer, answer, on_file, on_read, on_checked}
 use Rattle.lensmodel.specs.Call.Index.{Index, PrintsIndex, index_answer}
 use Rattle.lensmodel.specs.Call.TopCall as top
 use Rattle.lensmodel.specs.Call.TopCall.{Command, Means, command_answer, command_by, if_built, index, glass, read, trace, trace_json, first, seidel}
@@ -18,7 +18,7 @@ use Rattle.lensmodel.specs.declared.status.FileKind.TheVariants.{Agf}
 use Rattle.lensmodel.specs.declared.status.Status.TheVariants.{Done, TooLong}
 use Rattle.lensrun.specs.Built.{command_of, is_built, outcome}
 
-module _ (files : Files) (c : Index) where
+module _ (files : Contents) (c : Index) where
   -- an answer that is done prints the index
   PrintsWhenDone : Answer → Type 0
   PrintsWhenDone a = a.status ≡ Done → PrintsIndex files c a.text
@@ -27,7 +27,7 @@ module _ (files : Files) (c : Index) where
   line : Picked → Answer
   line p = answer Done (index_line p.glass.name.items c.wave p.index)
 
-  line-means : (bytes : List ℕ) (book : List Glass) (p : Picked) → files c.agf ≡ Some bytes → catalogue bytes ≡ Ok book → IsPicked book c.name c.wave p
+  line-means : (bytes : List ℕ) (book : List Glass) (p : Picked) → files Agf c.agf ≡ Some bytes → catalogue bytes ≡ Ok book → IsPicked book c.name c.wave p
       → PrintsWhenDone (line p)
   unfolding PrintsWhenDone line
   line-means bytes book p held is h =
@@ -44,7 +44,7 @@ module _ (files : Files) (c : Index) where
         holds = index_at_12-holds p.glass c.wave p.index (known_if_used p.glass.formula u.used) u.index;
       }
 
-  book-means : (bytes : List ℕ) (book : List Glass) → files c.agf ≡ Some bytes → catalogue bytes ≡ Ok book → PrintsWhenDone (on_checked (picked book c.name c.wave) line)
+  book-means : (bytes : List ℕ) (book : List Glass) → files Agf c.agf ≡ Some bytes → catalogue bytes ≡ Ok book → PrintsWhenDone (on_checked (picked book c.name c.wave) line)
   unfolding PrintsWhenDone
   book-means bytes book held is = by (picked book c.name c.wave) refl
     where
@@ -52,7 +52,7 @@ module _ (files : Files) (c : Index) where
       by (Err fault) e = λ done. cc
       by (Ok p) e = line-means bytes book p held is (picked-is book c.name c.wave p e)
 
-  bytes-mean : (bytes : List ℕ) → files c.agf ≡ Some bytes → PrintsWhenDone (on_read Agf agf_cause (catalogue bytes) (λ book. on_checked (picked book c.name c.wave) line))
+  bytes-mean : (bytes : List ℕ) → files Agf c.agf ≡ Some bytes → PrintsWhenDone (on_read Agf agf_cause (catalogue bytes) (λ book. on_checked (picked book c.name c.wave) line))
   unfolding PrintsWhenDone
   bytes-mean bytes held = by (catalogue bytes) refl
     where
@@ -62,13 +62,13 @@ module _ (files : Files) (c : Index) where
 
   index-means : PrintsWhenDone (index_answer files c)
   unfolding PrintsWhenDone line
-  index-means = by (files c.agf) refl
+  index-means = by (files Agf c.agf) refl
     where
       in_time : (long : Bool) (a : Answer) → PrintsWhenDone a → PrintsWhenDone (if long then answer TooLong (too_long_line Agf) else a)
       in_time true a h = λ done. cc
       in_time false a h = h
 
-      by : (o : Option (List ℕ)) → files c.agf ≡ o
+      by : (o : Option (List ℕ)) → files Agf c.agf ≡ o
           → PrintsWhenDone (on_file Agf o (λ bytes. on_read Agf agf_cause (catalogue bytes) (λ book. on_checked (picked book c.name c.wave) line)))
       by None e = λ done. cc
       by (Some bytes) e = in_time (nat_lt 16_777_216 (length bytes)) _ (bytes-mean bytes e)
@@ -78,7 +78,7 @@ IsBuilt : Option Command → Type 0
 IsBuilt None = Unit {0}
 IsBuilt (Some c) = is_built c ≡ true
 
-command-means : (files : Files) (c : Option Command) → IsBuilt c → Means files c (command_answer files c)
+command-means : (files : Contents) (c : Option Command) → IsBuilt c → Means files c (command_answer files c)
 unfolding PrintsWhenDone IsBuilt
 command-means files None b = tt
 command-means files (Some (index c)) b = index-means files c
@@ -104,6 +104,6 @@ command-is [] = tt
 command-is (word ∷ rest) = if_built-is (command_by word rest)
 
 -- what the words ask for is what the outcome means
-pub outcome-means : (files : Files) (words : List (List ℕ)) → Means files (command_of words) (outcome files words)
+pub outcome-means : (files : Contents) (words : List (List ℕ)) → Means files (command_of words) (outcome files words)
 unfolding top.outcome
 outcome-means files words = command-means files (command_of words) (command-is words)

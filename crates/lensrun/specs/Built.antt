@@ -1,6 +1,6 @@
 -- The commands that are built: every other one is as words that fit no command.
 use Rattle.std.specs.Prelude.{ℕ, Bool, true, false, List, Option}
-use Rattle.lensmodel.specs.Call.Answer.{Files, Answer}
+use Rattle.lensmodel.specs.Call.Answer.{Contents, Answer}
 use Rattle.lensmodel.specs.Call.TopCall as top
 use Rattle.lensmodel.specs.Call.TopCall.{Command, index, glass, read, trace, trace_json, first, seidel}
 
@@ -18,5 +18,5 @@ abbrev pub command_of : List (List ℕ) → Option Command
 command_of words = top.command_of is_built words
 
 -- the status and the text that are due
-abbrev pub outcome : Files → List (List ℕ) → Answer
+abbrev pub outcome : Contents → List (List ℕ) → Answer
 outcome files words = top.outcome is_built files words

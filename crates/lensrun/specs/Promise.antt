@@ -1,18 +1,23 @@
 -- What a call promises: how it ends and what it writes. A shelf and a sink may tell their bytes or not.
 use Rattle.std.specs.Prelude.{◌≡◌, ℕ, ◌⊎◌, List, [], map, Any, Option, None, Some}
+use Rattle.lensio.specs.Held.{Files}
 use Rattle.lensio.specs.Taken.{Takes, TakesFront}
 use Rattle.lensmodel.specs.Texts.FaultText.{read_fault_line}
 use Rattle.lensmodel.specs.Call.TopCall.{Means}
-use Rattle.lensmodel.specs.Call.Answer.{Files}
+use Rattle.lensmodel.specs.Call.Answer.{Contents}
 use Rattle.lensmodel.specs.Call.TopCall.{Command, files_of}
 use Rattle.lensmodel.specs.declared.status.Status.{Status}
 use Rattle.lensmodel.specs.declared.status.Status.TheVariants.{Done, Usage, Refused, Absent, ReadFault, TooLong, WriteFault, Memory}
 use Rattle.lensrun.specs.Built.{command_of, outcome}
 
--- P of the files that are told, or of some files where none are told
-abbrev pub OfFiles : Option Files → (Files → Type 0) → Type 0
-OfFiles (Some files) P = P files
-OfFiles None P = (files : Files) × P files
+-- what a shelf holds by a name, whichever kind of file is asked for
+abbrev pub by_name : Files → Contents
+by_name files kind name = files name
+
+-- P of the files that are told; where none are told, P of some files, which may differ from kind to kind under one name
+abbrev pub OfFiles : Option Files → (Contents → Type 0) → Type 0
+OfFiles (Some files) P = P (by_name files)
+OfFiles None P = (files : Contents) × P files
 
 -- the statuses that the words and the files decide, and not the outside
 abbrev pub IsDecided : Status → Type 0
@@ -26,7 +31,7 @@ IsDecided WriteFault = ⊥
 IsDecided Memory = ⊥
 
 -- the call ended as it was due and wrote the text that was due, and that text means what it prints
-pub record IsDue (words : List (List ℕ)) (ended : Status) (old new : Option (List ℕ)) (files : Files) : Type 0 where
+pub record IsDue (words : List (List ℕ)) (ended : Status) (old new : Option (List ℕ)) (files : Contents) : Type 0 where
   pub status : ended ≡ (outcome files words).status
   pub text : Takes old new (outcome files words).text
   pub means : Means files (command_of words) (outcome files words)
@@ -56,4 +61,4 @@ WritesDueFront held words old new = OfFiles held (λ files. TakesFront old new (
 -- where the words and the files that are told make a report, the call is done or memory was wanting
 abbrev pub IsComplete : Option Files → List (List ℕ) → Status → Type 0
 IsComplete None words ended = Unit {0}
-IsComplete (Some files) words ended = (outcome files words).status ≡ Done → (ended ≡ Done) ⊎ (ended ≡ Memory)
+IsComplete (Some files) words ended = (outcome (by_name files) words).status ≡ Done → (ended ≡ Done) ⊎ (ended ≡ Memory)

@@ -6,9 +6,9 @@ use Rattle.lensmodel.specs.declared.status.FileKind.{FileKind}
 use Rattle.lensmodel.specs.declared.status.Status.{Status}
 use Rattle.lensmodel.specs.declared.status.Status.TheVariants.{Refused, Absent, TooLong}
 
--- what is held by each name
-abbrev pub Files : Type 0
-Files = List ℕ → Option (List ℕ)
+-- what is held by the name of a file of each kind
+abbrev pub Contents : Type 0
+Contents = FileKind → List ℕ → Option (List ℕ)
 
 -- the files that a command names, in the order in which they are read
 abbrev pub Named : Type 0

@@ -2,7 +2,7 @@
 -- Cited by the outcome of a call.
 use Rattle.std.specs.Prelude.{◌≡◌, ℕ, suc, List, [], ◌∷◌, ◌++◌, All}
 use Rattle.fixdec.specs.Decimal.{Decimal}
-use Rattle.lensmodel.specs.Call.Answer.{Files, Answer, answer}
+use Rattle.lensmodel.specs.Call.Answer.{Contents, Answer, answer}
 use Rattle.lensmodel.specs.Call.Inputs.{Inputs, AreInputs, on_inputs}
 use Rattle.lensmodel.specs.Paraxial.FirstOrder.{FirstChain, IsFirstChain, HoldsFirst, one_decimal}
 use Rattle.lensmodel.specs.Paraxial.FirstOrderRows.{first_order}
@@ -41,14 +41,14 @@ trails s i (a ∷ more) = first_trail i (first_order s a.y a.u) ++ trails s (suc
 unfoldable pub first_text : Setup → Job → List ℕ
 first_text s job = first_head (first_order s one_decimal zero_decimal) ++ trails s 1 (firsts job.asks)
 
-abbrev pub first_answer : Files → Inputs → Answer
+abbrev pub first_answer : Contents → Inputs → Answer
 first_answer files i = on_inputs files i (λ s job. answer Done (first_text s job))
 
 -- every paraxial chain lies in what is printed of its ray
 abbrev pub FirstHolds : Setup → Asked → Type 0
 FirstHolds s a = (c : FirstChain) → IsFirstChain s a.y a.u c → HoldsFirst s (first_order s a.y a.u) c
 
-pub record PrintsFirst (files : Files) (i : Inputs) (text : List ℕ) : Type 0 where
+pub record PrintsFirst (files : Contents) (i : Inputs) (text : List ℕ) : Type 0 where
   pub setup : Setup
   pub job : Job
   pub inputs : AreInputs files i setup job

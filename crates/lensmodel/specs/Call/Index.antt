@@ -5,7 +5,7 @@ use Rattle.fixdec.specs.Ends.{Ends}
 use Rattle.fixdec.specs.Frac.{Frac}
 use Rattle.fixdec.specs.Member.{IsMember}
 use Rattle.fixdec.specs.Reading.{decimal_of}
-use Rattle.lensmodel.specs.Call.Answer.{Files, Named, Answer, answer, on_checked}
+use Rattle.lensmodel.specs.Call.Answer.{Contents, Named, Answer, answer, on_checked}
 use Rattle.lensmodel.specs.Call.Inputs.{on_catalogue}
 use Rattle.lensmodel.specs.Equations.Dispersion.{IsGlassIndex}
 use Rattle.lensmodel.specs.Equations.Residual.{residual}
@@ -43,18 +43,18 @@ abbrev pub index_named : Index → Named
 index_named c = (Agf, c.agf) ∷ []
 
 -- the glass of the name, refused by its cross check, or the line of its index
-abbrev pub index_answer : Files → Index → Answer
+abbrev pub index_answer : Contents → Index → Answer
 index_answer files c =
     on_catalogue files c.agf (λ book. on_checked (picked book c.name c.wave) (λ p. answer Done (index_line p.glass.name.items c.wave p.index)))
 
 -- the text is the line of an interval for the first glass of the name in the catalogue held by the file's name; and each
 -- fraction above 0 whose square is that glass's formula at the wavelength, within 10^-12, lies between the interval's ends
-pub record PrintsIndex (files : Files) (c : Index) (text : List ℕ) : Type 0 where
+pub record PrintsIndex (files : Contents) (c : Index) (text : List ℕ) : Type 0 where
   pub bytes : List ℕ
   pub book : List Glass
   pub found : Glass
   pub ends : Ends
-  pub held : files c.agf ≡ Some bytes
+  pub held : files Agf c.agf ≡ Some bytes
   pub read : catalogue bytes ≡ Ok book
   pub first : find_glass c.name book ≡ Some found
   pub printed : text ≡ index_line found.name.items c.wave ends

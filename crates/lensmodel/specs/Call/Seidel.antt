@@ -2,7 +2,7 @@
 -- Cited by the outcome of a call.
 use Rattle.std.specs.Prelude.{◌≡◌, ℕ, suc, List, [], ◌∷◌, ◌++◌, All, length}
 use Rattle.fixdec.specs.Decimal.{Decimal}
-use Rattle.lensmodel.specs.Call.Answer.{Files, Answer, answer}
+use Rattle.lensmodel.specs.Call.Answer.{Contents, Answer, answer}
 use Rattle.lensmodel.specs.Call.Inputs.{Inputs, AreInputs, on_inputs}
 use Rattle.lensmodel.specs.Paraxial.Seidel.{SeidelChain, IsSeidelChain, HoldsSeidel}
 use Rattle.lensmodel.specs.Paraxial.SeidelRows.{seidel_sums}
@@ -41,14 +41,14 @@ sets s i (a ∷ more) = seidel_set i (seidel_sums s a.y a.u a.yb a.ub) ++ sets s
 unfoldable pub seidel_text : Setup → Job → List ℕ
 seidel_text s job = seidel_head (length (pairs job.asks)) ++ sets s 1 (pairs job.asks)
 
-abbrev pub seidel_answer : Files → Inputs → Answer
+abbrev pub seidel_answer : Contents → Inputs → Answer
 seidel_answer files i = on_inputs files i (λ s job. answer Done (seidel_text s job))
 
 -- every Seidel chain lies in what is printed of its rays
 abbrev pub SumsHold : Setup → Pair → Type 0
 SumsHold s a = (c : SeidelChain) → IsSeidelChain s a.y a.u a.yb a.ub c → HoldsSeidel (seidel_sums s a.y a.u a.yb a.ub) c
 
-pub record PrintsSums (files : Files) (i : Inputs) (text : List ℕ) : Type 0 where
+pub record PrintsSums (files : Contents) (i : Inputs) (text : List ℕ) : Type 0 where
   pub setup : Setup
   pub job : Job
   pub inputs : AreInputs files i setup job

@@ -1,7 +1,7 @@
 -- The outcome of a call: from its words and the held files the status and the text that are due. It only hands on to the
 -- commands. Cited by the top call.
 use Rattle.std.specs.Prelude.{◌≡◌, ℕ, Bool, List, [], ◌∷◌, codes, Option, Some, None, option_map, if◌then◌else◌}
-use Rattle.lensmodel.specs.Call.Answer.{Files, Named, Answer, answer}
+use Rattle.lensmodel.specs.Call.Answer.{Contents, Named, Answer, answer}
 use Rattle.lensmodel.specs.Call.First.{first_answer, PrintsFirst}
 use Rattle.lensmodel.specs.Call.Glass.{glass_words, glass_named, glass_answer}
 use Rattle.lensmodel.specs.Call.Index.{Index, index_words, index_named, index_answer, PrintsIndex}
@@ -55,7 +55,7 @@ files_of (trace_json i) = inputs_named i
 files_of (first i) = inputs_named i
 files_of (seidel i) = inputs_named i
 
-abbrev pub answer_of : Files → Command → Answer
+abbrev pub answer_of : Contents → Command → Answer
 answer_of files (index c) = index_answer files c
 answer_of files (glass agf) = glass_answer files agf
 answer_of files (read zmx) = read_answer files zmx
@@ -64,16 +64,16 @@ answer_of files (trace_json i) = json_answer files i
 answer_of files (first i) = first_answer files i
 answer_of files (seidel i) = seidel_answer files i
 
-abbrev pub command_answer : Files → Option Command → Answer
+abbrev pub command_answer : Contents → Option Command → Answer
 command_answer files None = answer Usage usage_line
 command_answer files (Some c) = answer_of files c
 
 -- the outcome
-unfoldable pub outcome : (Command → Bool) → Files → List (List ℕ) → Answer
+unfoldable pub outcome : (Command → Bool) → Contents → List (List ℕ) → Answer
 outcome is_built files words = command_answer files (command_of is_built words)
 
 -- what the text of a report means, by its command
-abbrev pub Prints : Files → Command → List ℕ → Type 0
+abbrev pub Prints : Contents → Command → List ℕ → Type 0
 Prints files (index c) text = PrintsIndex files c text
 Prints files (glass agf) text = Unit {0}
 Prints files (read zmx) text = Unit {0}
@@ -83,6 +83,6 @@ Prints files (first i) text = PrintsFirst files i text
 Prints files (seidel i) text = PrintsSums files i text
 
 -- an answer means what it prints, where it is done
-abbrev pub Means : Files → Option Command → Answer → Type 0
+abbrev pub Means : Contents → Option Command → Answer → Type 0
 Means files None a = Unit {0}
 Means files (Some c) a = a.status ≡ Done → Prints files c a.text

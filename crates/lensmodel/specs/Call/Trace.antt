@@ -1,7 +1,7 @@
 -- The command trace: its answer, and what the printed rows and spots mean. Its words are those of a lens, a catalogue, a job,
 -- and a box if there is one. Cited by the outcome of a call.
 use Rattle.std.specs.Prelude.{◌≡◌, ℕ, ◌+◌, Bool, true, false, List, [], ◌∷◌, ◌++◌, map, All, length}
-use Rattle.lensmodel.specs.Call.Answer.{Files, Answer, answer}
+use Rattle.lensmodel.specs.Call.Answer.{Contents, Answer, answer}
 use Rattle.lensmodel.specs.Call.Inputs.{Inputs, AreInputs, on_inputs}
 use Rattle.lensmodel.specs.Claims.RowClaims.{RowHolds}
 use Rattle.lensmodel.specs.Claims.SpotClaims.{Traced, SpotHolds}
@@ -50,7 +50,7 @@ unfoldable pub trace_text : Setup → Job → List ℕ
 trace_text s job = trace_head s ++ asks_lines s 1 job.asks ++ total_line (map (row s) (job_launches job.asks))
 
 -- ---- the answer
-abbrev pub trace_answer : Files → Inputs → Answer
+abbrev pub trace_answer : Contents → Inputs → Answer
 trace_answer files i = on_inputs files i (λ s job. answer Done (trace_text s job))
 
 -- ---- what it means
@@ -68,7 +68,7 @@ abbrev pub SpotsHold : Setup → Job → Type 0
 SpotsHold s job = All (λ ask. SpotHolds s (traced s ask)) job.asks
 
 -- the files held by the names are accepted, the text is that of their setup and their job, and what it says holds
-pub record PrintsRows (files : Files) (i : Inputs) (text : List ℕ) : Type 0 where
+pub record PrintsRows (files : Contents) (i : Inputs) (text : List ℕ) : Type 0 where
   pub setup : Setup
   pub job : Job
   pub inputs : AreInputs files i setup job

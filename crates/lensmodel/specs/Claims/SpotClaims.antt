@@ -1,6 +1,6 @@
 -- What the statistics of a spot claim: whichever whole chain is chosen for each row that passes.
 -- Cited by the statistics of a grid and by the command trace.
-use Rattle.std.specs.Prelude.{◌≡◌, ◌-◌, pos, List, [], ◌∷◌, length, map, filter, All, IsTrue}
+use Rattle.std.specs.Prelude.{◌≡◌, ◌-◌, pos, List, [], ◌∷◌, length, map, filter, IsTrue}
 use Rattle.std.specs.List.{AllZip}
 use Rattle.fixdec.specs.Ends.{Ends}
 use Rattle.fixdec.specs.Frac.{Frac, ◌+Q◌, ◌-Q◌, ◌*Q◌, whole}
@@ -89,7 +89,3 @@ SpotHolds s rays = (chains : List Chain) → AreChosen s rays chains → (chains
     → let points = map (image_point s) chains in
     OnVal (centroid (map (λ t. t.row) rays)) (λ c. IsMember 12 c.0 (mean_x points) × IsMember 12 c.1 (mean_y points))
     × OnVal (mean_square (map (λ t. t.row) rays)) (λ r. IsMember 12 r (spread points))
-
--- the claim for all rays that were traced
-abbrev pub SpotsEnclose : Type 0
-SpotsEnclose = (s : Setup) (rays : List Traced) → All (IsTraced s) rays → SpotHolds s rays
