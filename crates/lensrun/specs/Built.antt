@@ -8,7 +8,7 @@ abbrev pub is_built : Command → Bool
 is_built (index c) = true
 is_built (glass agf) = true
 is_built (read zmx) = true
-is_built (trace i) = false
+is_built (trace i) = true
 is_built (trace_json i) = false
 is_built (first i) = false
 is_built (seidel i) = false

@@ -1,38 +1,70 @@
--- What a call is due to write, once its words were taken and its file was read.
-use Rattle.std.specs.Prelude.{◌≡◌, ℕ, ◌⊎◌, List, [], Option}
+-- What a call is due to write, once its words were taken and its files were read.
+use Rattle.std.specs.Prelude.{◌≡◌, ℕ, ◌*◌, ◌⊎◌, List, [], Option, Some}
 use Rattle.fixdec.specs.Decimal.{Decimal}
 use Rattle.lensio.specs.Count.{Rose}
 use Rattle.lensio.specs.Taken.{Takes, TakesFront}
 use Rattle.lensio.specs.declared.transfer.SlurpFault.{SlurpFault}
 use Rattle.lensio.specs.declared.transfer.SlurpFault.TheVariants as slurped
-use Rattle.lensmodel.specs.Files.Catalogue.{catalogue}
-use Rattle.lensmodel.specs.Files.Lens.{prescription}
-use Rattle.lensmodel.specs.Texts.FaultText.{agf_cause, zmx_cause, absent_line, read_fault_line, too_long_line}
+use Rattle.ladder.specs.Room.{HasRoom}
+use Rattle.lensmodel.specs.Texts.FaultText.{absent_line, read_fault_line, too_long_line}
 use Rattle.lensmodel.specs.Files.Picking.{picked}
 use Rattle.lensmodel.specs.Texts.Book.{book_text}
 use Rattle.lensmodel.specs.Texts.Index.{index_line}
 use Rattle.lensmodel.specs.Texts.Lens.{lens_text}
-use Rattle.lensmodel.specs.Call.Answer.{Answer, answer, on_checked, on_read}
+use Rattle.lensmodel.specs.Call.Answer.{Contents, Answer, answer, on_checked}
+use Rattle.lensmodel.specs.Call.Inputs.{Inputs, AreInputs}
+use Rattle.lensmodel.specs.Call.TopCall.{Command, trace}
+use Rattle.lensmodel.specs.Call.Trace.{trace_text, RowsHold, SpotsHold}
+use Rattle.lensmodel.specs.Setup.Values.{image}
+use Rattle.lensmodel.specs.Setup.WellFormed.{IsWellFormed, IsInRange}
 use Rattle.lensmodel.specs.declared.glass.Glass.{Glass}
 use Rattle.lensmodel.specs.declared.status.FileKind.{FileKind}
-use Rattle.lensmodel.specs.declared.status.FileKind.TheVariants.{Agf, Zmx}
 use Rattle.lensmodel.specs.declared.status.Status.{Status}
 use Rattle.lensmodel.specs.declared.status.Status.TheVariants.{Done, Absent, ReadFault, TooLong, WriteFault, Memory}
 use Rattle.lensrun.specs.declared.due.Due.{Due}
-use Rattle.lensrun.specs.declared.due.Due.TheVariants.{Line, Glasses, Lens, Nothing}
-use Rattle.lensrun.specs.declared.words.Command.{Command}
-use Rattle.lensrun.specs.declared.words.Command.TheVariants as asked
+use Rattle.lensrun.specs.declared.due.Due.TheVariants.{Line, Glasses, Lens, Trace, Nothing}
+use Rattle.lensrun.specs.declared.due.Tracing.{Tracing}
 
 -- what is due, as an answer
 abbrev pub due_answer : Due → Answer
 due_answer (Line status text) = answer status text.bytes
 due_answer (Glasses book) = answer Done (book_text book)
 due_answer (Lens file) = answer Done (lens_text file.lens file.unused)
+due_answer (Trace t) = answer Done (trace_text t.setup t.job)
 due_answer Nothing = answer Memory []
 
--- this answer is due, or nothing for want of memory
-abbrev pub IsDueOrNothing : Due → Answer → Type 0
-IsDueOrNothing due a = (due ≡ Nothing) ⊎ (due_answer due ≡ a)
+-- what is to be traced can be: the setup is well-formed, the job is in its ranges, and there is room for the surfaces
+pub record CanBeTraced (t : Tracing) : Type 0 where
+  pub well : IsWellFormed t.setup
+  pub range : IsInRange t.job
+  pub room : HasRoom t.bench
+
+abbrev pub IsReady : Due → Type 0
+IsReady (Trace t) = CanBeTraced t
+IsReady due = Unit {0}
+
+-- the rows that are due hold, and the spots
+pub record TracingHolds (t : Tracing) : Type 0 where
+  pub rows : RowsHold t.setup t.job
+  pub spots : SpotsHold t.setup t.job
+
+abbrev pub DueHolds : Due → Type 0
+DueHolds (Trace t) = TracingHolds t
+DueHolds due = Unit {0}
+
+-- how many surfaces are prepared for what is due: those from 1 to the image, at four scales
+abbrev pub preparations : Due → ℕ
+preparations (Trace t) = 4 * image t.setup
+preparations due = 0
+
+-- what is due is the report of a trace of these files
+abbrev pub IsTraceOf : Contents → Inputs → Due → Type 0
+IsTraceOf files i due = (t : Tracing) × (due ≡ Trace t) × AreInputs files i t.setup t.job
+
+-- the report that is due is that of the command's files
+abbrev pub RestsOn : Contents → Option Command → Due → Type 0
+RestsOn files (Some (trace i)) due = (due_answer due).status ≡ Done → IsTraceOf files i due
+RestsOn files c due = Unit {0}
 
 -- a file that isn't read
 abbrev pub unread_answer : FileKind → SlurpFault → Answer
@@ -44,12 +76,6 @@ unread_answer file slurped.Memory = answer Memory []
 -- what index answers over a book, of a glass at a wavelength
 abbrev pub index_answer : List ℕ → Decimal → List Glass → Answer
 index_answer name wave book = on_checked (picked book name wave) (λ p. answer Done (index_line p.glass.name.items wave p.index))
-
--- what a command answers over the bytes of its file
-abbrev pub bytes_answer : Command → List ℕ → Answer
-bytes_answer (asked.Index agf name wave) bytes = on_read Agf agf_cause (catalogue bytes) (index_answer name.items wave)
-bytes_answer (asked.Glass agf) bytes = on_read Agf agf_cause (catalogue bytes) (λ book. answer Done (book_text book))
-bytes_answer (asked.Read zmx) bytes = on_read Zmx zmx_cause (prescription bytes) (λ file. answer Done (lens_text file.lens file.unused))
 
 -- the call ended with an answer's status and wrote its text, or a front of it to a sink that failed
 abbrev pub Delivers : Answer → Status → Option (List ℕ) → Option (List ℕ) → ℕ → ℕ → Type 0

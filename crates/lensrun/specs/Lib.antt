@@ -1,6 +1,7 @@
 pub mod Asked
 pub mod Built
 pub mod Due
+pub mod Found
 pub mod Gathered
 pub mod Numbered
 pub mod Promise

@@ -1,14 +1,22 @@
 -- What a call promises: how it ends and what it writes. A shelf and a sink may tell their bytes or not.
-use Rattle.std.specs.Prelude.{◌≡◌, ℕ, ◌⊎◌, List, [], map, Any, Option, None, Some}
+use Rattle.std.specs.Prelude.{◌≡◌, ◌≢◌, ℕ, ◌+◌, ◌*◌, ◌⊎◌, List, [], map, Any, Option, None, Some}
 use Rattle.lensio.specs.Held.{Files}
 use Rattle.lensio.specs.Taken.{Takes, TakesFront}
-use Rattle.lensmodel.specs.Texts.FaultText.{read_fault_line}
-use Rattle.lensmodel.specs.Call.TopCall.{Means}
-use Rattle.lensmodel.specs.Call.Answer.{Contents}
-use Rattle.lensmodel.specs.Call.TopCall.{Command, files_of}
+use Rattle.lensmodel.specs.Texts.FaultText.{absent_line, read_fault_line}
+use Rattle.lensmodel.specs.Call.Answer.{Contents, answer}
+use Rattle.lensmodel.specs.Call.Inputs.{AreInputs}
+use Rattle.lensmodel.specs.Call.TopCall.{Command, Means, answer_of, command_answer, files_of, trace}
+use Rattle.lensmodel.specs.Setup.Values.{image}
+use Rattle.lensmodel.specs.declared.job.Job.{Job as AskedRays}
+use Rattle.lensmodel.specs.declared.setup.Setup.{Setup}
+use Rattle.lensmodel.specs.declared.status.FileKind.{FileKind}
+use Rattle.lensmodel.specs.declared.status.FileKind.TheVariants.{Zmx, Agf, Job, Tol, Cert, Script}
 use Rattle.lensmodel.specs.declared.status.Status.{Status}
 use Rattle.lensmodel.specs.declared.status.Status.TheVariants.{Done, Usage, Refused, Absent, ReadFault, TooLong, WriteFault, Memory}
 use Rattle.lensrun.specs.Built.{command_of, outcome}
+use Rattle.lensrun.specs.Due.{due_answer, RestsOn}
+use Rattle.lensrun.specs.declared.due.Due.{Due}
+use Rattle.lensrun.specs.declared.due.Due.TheVariants.{Nothing}
 
 -- what a shelf holds by a name, whichever kind of file is asked for
 abbrev pub by_name : Files → Contents
@@ -41,18 +49,34 @@ abbrev pub names_of : Option Command → List (List ℕ)
 names_of None = []
 names_of (Some c) = map (λ file. file.1) (files_of c)
 
+-- the same files without that of a kind
+abbrev pub without : FileKind → Contents → Contents
+without Zmx files Zmx name = None
+without Agf files Agf name = None
+without Job files Job name = None
+without Tol files Tol name = None
+without Cert files Cert name = None
+without Script files Script name = None
+without kind files other name = files other name
+
+-- the text is the line of a failed read of the file of a kind, and the files before it are held and accepted: were this one not
+-- held, the call would answer so
+pub record IsFaultOf (held : Option Files) (c : Command) (kind : FileKind) (text : List ℕ) : Type 0 where
+  pub line : text ≡ read_fault_line kind
+  pub reached : OfFiles held (λ files. answer_of (without kind files) c ≡ answer Absent (absent_line kind))
+
 -- the text is the line of a failed read of a file that the command names
-abbrev pub IsReadFaultLine : Option Command → List ℕ → Type 0
-IsReadFaultLine None text = ⊥
-IsReadFaultLine (Some c) text = Any (λ file. text ≡ read_fault_line file.0) (files_of c)
+abbrev pub IsReadFaultLine : Option Files → Option Command → List ℕ → Type 0
+IsReadFaultLine held None text = ⊥
+IsReadFaultLine held (Some c) text = Any (λ file. IsFaultOf held c file.0 text) (files_of c)
 
 -- such a line was written
-abbrev pub WritesReadFault : List (List ℕ) → Option (List ℕ) → Option (List ℕ) → Type 0
-WritesReadFault words old new = (text : List ℕ) × IsReadFaultLine (command_of words) text × Takes old new text
+abbrev pub WritesReadFault : Option Files → List (List ℕ) → Option (List ℕ) → Option (List ℕ) → Type 0
+WritesReadFault held words old new = (text : List ℕ) × IsReadFaultLine held (command_of words) text × Takes old new text
 
 -- a front of such a line was written
-abbrev pub WritesReadFaultFront : List (List ℕ) → Option (List ℕ) → Option (List ℕ) → Type 0
-WritesReadFaultFront words old new = (text : List ℕ) × IsReadFaultLine (command_of words) text × TakesFront old new text
+abbrev pub WritesReadFaultFront : Option Files → List (List ℕ) → Option (List ℕ) → Option (List ℕ) → Type 0
+WritesReadFaultFront held words old new = (text : List ℕ) × IsReadFaultLine held (command_of words) text × TakesFront old new text
 
 -- a front of the text that was due was written
 abbrev pub WritesDueFront : Option Files → List (List ℕ) → Option (List ℕ) → Option (List ℕ) → Type 0
@@ -62,3 +86,31 @@ WritesDueFront held words old new = OfFiles held (λ files. TakesFront old new (
 abbrev pub IsComplete : Option Files → List (List ℕ) → Status → Type 0
 IsComplete None words ended = Unit {0}
 IsComplete (Some files) words ended = (outcome (by_name files) words).status ≡ Done → (ended ≡ Done) ⊎ (ended ≡ Memory)
+
+-- the surfaces of the lens that a command traces were prepared, each from 1 to the image at four scales
+abbrev pub PreparesLens : Contents → Option Command → ℕ → ℕ → Type 0
+PreparesLens files (Some (trace i)) before now = (s : Setup) × (job : AskedRays) × AreInputs files i s job × (now ≡ before + 4 * image s)
+PreparesLens files c before now = ⊥
+
+-- no surface was prepared, or those of the lens once
+abbrev pub Prepares : Option Files → List (List ℕ) → ℕ → ℕ → Type 0
+Prepares held words before now = (now ≡ before) ⊎ OfFiles held (λ files. PreparesLens files (command_of words) before now)
+
+-- the statuses of calls that make no report
+abbrev pub MakesNone : Status → Type 0
+MakesNone Done = ⊥
+MakesNone WriteFault = ⊥
+MakesNone status = Unit {0}
+
+-- ---- what is gathered for a command
+-- the answer is what is due, and a report rests on the command's files
+pub record IsAnswered (files : Contents) (c : Option Command) (due : Due) : Type 0 where
+  pub answer : due_answer due ≡ command_answer files c
+  pub rests : RestsOn files c due
+
+-- what is due is the answer of the command, unless the outside decides
+pub record IsDueOf (held : Option Files) (c : Option Command) (due : Due) : Type 0 where
+  pub outcome : IsDecided (due_answer due).status → OfFiles held (λ files. IsAnswered files c due)
+  pub read_fault : (due_answer due).status ≡ ReadFault → IsReadFaultLine held c (due_answer due).text
+  pub no_write : (due_answer due).status ≢ WriteFault
+  pub nothing : (due_answer due).status ≡ Memory → due ≡ Nothing
