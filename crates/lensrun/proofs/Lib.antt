@@ -2,7 +2,9 @@ mod Books
 mod Deliveries
 mod Faults
 mod Gathering
+mod Inputs
 mod Lens
 mod Meaning
 mod Outcomes
 mod Parts
+mod Stopping

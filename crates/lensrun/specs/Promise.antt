@@ -97,10 +97,10 @@ abbrev pub Prepares : Option Files → List (List ℕ) → ℕ → ℕ → Type 
 Prepares held words before now = (now ≡ before) ⊎ OfFiles held (λ files. PreparesLens files (command_of words) before now)
 
 -- the statuses of calls that make no report
-abbrev pub MakesNone : Status → Type 0
-MakesNone Done = ⊥
-MakesNone WriteFault = ⊥
-MakesNone status = Unit {0}
+abbrev pub MakesNoReport : Status → Type 0
+MakesNoReport Done = ⊥
+MakesNoReport WriteFault = ⊥
+MakesNoReport status = Unit {0}
 
 -- ---- what is gathered for a command
 -- the answer is what is due, and a report rests on the command's files

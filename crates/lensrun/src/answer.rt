@@ -1,77 +1,102 @@
-//! What a command answers over its file.
+//! What each command is due to write over its files.
 
-ghost use Rattle.std.specs.Prelude.{◌≡◌, pos, ◌<ℤ◌};
-ghost use Rattle.lensmodel.specs.Call.Answer.{answer, on_read};
-ghost use Rattle.lensmodel.specs.Files.Catalogue.{catalogue};
-ghost use Rattle.lensmodel.specs.Files.Lens.{prescription};
-ghost use Rattle.lensmodel.specs.Texts.Book.{book_text};
-ghost use Rattle.lensmodel.specs.Texts.FaultText.{agf_cause, zmx_cause};
+ghost use Rattle.std.specs.Prelude.{◌≡◌, pos, ◌<ℤ◌, ◌∷◌, [], Some, length, map};
+ghost use Rattle.lensio.specs.Taken.{Takes, TakesFront};
+ghost use Rattle.lensmodel.specs.Call.Answer.{answer};
+ghost use Rattle.lensmodel.specs.Call.Inputs.{inputs_named};
+ghost use Rattle.lensmodel.specs.Call.TopCall as top;
 ghost use Rattle.lensmodel.specs.Texts.Index.{index_line};
-ghost use Rattle.lensmodel.specs.Texts.Lens.{lens_text};
-ghost use Rattle.lensrun.specs.Asked.{HasWavelength};
-ghost use Rattle.lensrun.specs.Due.{due_answer, IsDueOrNothing, bytes_answer, index_answer};
+ghost use Rattle.lensrun.specs.Asked.{inputs};
+ghost use Rattle.lensrun.specs.Due.{due_answer, index_answer, IsReady};
+ghost use Rattle.lensrun.specs.Found.{IsCounted};
+ghost use Rattle.lensrun.specs.Promise.{IsDueOf};
 
-use crate::due::{Due, crossed, refused_catalogue, refused_lens};
-use crate::words::Command;
-use agfread::read::read_agf;
+use crate::due::{Due, Tracing, crossed};
+use crate::files::{book_of, lens_of};
+use crate::joined::setup_of;
+use crate::words::Inputs;
 use dispers::pick::{Picked, find};
 use fixdec::dec::Dec;
 use glassbook::book::GlassBook;
+use ladder::bench::Bench;
+use lensio::shelf::Shelf;
 use lensmodel::name::Name;
-use lensmodel::status::{FileKind, Status};
+use lensmodel::status::Status;
 use lensreport::index::print_index;
 use lensreport::pieces::Line;
 use std::alloc::Global;
-use zmxread::read::read_zmx;
-
-/// What a command is due to write over the bytes of its file.
-pub fn over_bytes(alloc: Global, command: &Command<'_>, bytes: &[u8]) -> Due
-    requires { HasWavelength command.now }
-    ensures { IsDueOrNothing result (bytes_answer command.now bytes.now) }
-{
-    match command {
-        Command::Index { glass, wave, .. } => index_due(alloc, bytes, glass, wave),
-        Command::Glass { .. } => book_due(alloc, bytes),
-        Command::Read { .. } => lens_due(alloc, bytes),
-    }
-}
 
 /// The index of a glass of a catalogue at a wavelength above 0.
-fn index_due(alloc: Global, bytes: &[u8], name: &Name, wave: &Dec) -> Due
+pub fn index_due<F: Shelf>(
+    alloc: Global,
+    shelf: &mut F,
+    catalogue: &[u8],
+    name: &Name,
+    wave: &Dec,
+) -> Due
     requires { pos 0 <ℤ wave.now.mant }
-    ensures { IsDueOrNothing result (on_read FileKind.Agf agf_cause (catalogue bytes.now) (index_answer name.now.items wave.now)) }
+    ensures due { IsDueOf (F.held shelf.old) (Some (top.index (record { agf = catalogue.now; name = name.now.items; wave = wave.now }))) result }
+    ensures ready { IsReady result }
+    ensures asks { Takes (F.asked shelf.old) (F.asked shelf.new) (catalogue.now ∷ []) }
+    ensures counts { IsCounted (Some (due_answer result).status) 1 (F.faults shelf.old) (F.faults shelf.new)
+        (F.absences shelf.old) (F.absences shelf.new) (F.given shelf.old) (F.given shelf.new) }
 {
-    match read_agf(alloc, bytes) {
+    match book_of(alloc, shelf, catalogue) {
         Ok(book) => index_over(&book, name, wave),
-        Err(fault) => refused_catalogue(fault),
+        Err(due) => due,
     }
 }
 
 /// The glasses of a catalogue.
-fn book_due(alloc: Global, bytes: &[u8]) -> Due
-    ensures { IsDueOrNothing result (on_read FileKind.Agf agf_cause (catalogue bytes.now) (λ book. answer Status.Done (book_text book))) }
+pub fn glass_due<F: Shelf>(alloc: Global, shelf: &mut F, catalogue: &[u8]) -> Due
+    ensures due { IsDueOf (F.held shelf.old) (Some (top.glass catalogue.now)) result }
+    ensures ready { IsReady result }
+    ensures asks { Takes (F.asked shelf.old) (F.asked shelf.new) (catalogue.now ∷ []) }
+    ensures counts { IsCounted (Some (due_answer result).status) 1 (F.faults shelf.old) (F.faults shelf.new)
+        (F.absences shelf.old) (F.absences shelf.new) (F.given shelf.old) (F.given shelf.new) }
 {
-    match read_agf(alloc, bytes) {
+    match book_of(alloc, shelf, catalogue) {
         Ok(book) => Due::Glasses(book),
-        Err(fault) => refused_catalogue(fault),
+        Err(due) => due,
     }
 }
 
 /// The prescription of a lens.
-fn lens_due(alloc: Global, bytes: &[u8]) -> Due
-    ensures { IsDueOrNothing result
-        (on_read FileKind.Zmx zmx_cause (prescription bytes.now) (λ file. answer Status.Done (lens_text file.lens file.unused))) }
+pub fn read_due<F: Shelf>(alloc: Global, shelf: &mut F, lens: &[u8]) -> Due
+    ensures due { IsDueOf (F.held shelf.old) (Some (top.read lens.now)) result }
+    ensures ready { IsReady result }
+    ensures asks { Takes (F.asked shelf.old) (F.asked shelf.new) (lens.now ∷ []) }
+    ensures counts { IsCounted (Some (due_answer result).status) 1 (F.faults shelf.old) (F.faults shelf.new)
+        (F.absences shelf.old) (F.absences shelf.new) (F.given shelf.old) (F.given shelf.new) }
 {
-    match read_zmx(alloc, bytes) {
+    match lens_of(alloc, shelf, lens) {
         Ok(file) => Due::Lens(file),
-        Err(fault) => refused_lens(fault),
+        Err(due) => due,
+    }
+}
+
+/// The rows of the rays of a job. The room for the prepared surfaces is taken before the first file is asked for.
+pub fn trace_due<F: Shelf>(alloc: Global, shelf: &mut F, names: &Inputs<'_>) -> Due
+    ensures due { IsDueOf (F.held shelf.old) (Some (top.trace (inputs names.now))) result }
+    ensures ready { IsReady result }
+    ensures asks { TakesFront (F.asked shelf.old) (F.asked shelf.new) (map (λ file. file.1) (inputs_named (inputs names.now))) }
+    ensures counts { IsCounted (Some (due_answer result).status) (length (inputs_named (inputs names.now)))
+        (F.faults shelf.old) (F.faults shelf.new) (F.absences shelf.old) (F.absences shelf.new) (F.given shelf.old) (F.given shelf.new) }
+{
+    let Ok(bench) = Bench::room(alloc) else {
+        return Due::Nothing;
+    };
+    match setup_of(alloc, shelf, names) {
+        Ok((setup, job)) => Due::Trace(Tracing { setup, job, bench }),
+        Err(due) => due,
     }
 }
 
 /// The line of the index of a glass at a wavelength above 0, or why it can't be used there.
 fn index_over(book: &GlassBook, name: &Name, wave: &Dec) -> Due
     requires { pos 0 <ℤ wave.now.mant }
-    ensures { due_answer result ≡ index_answer name.now.items wave.now book.now }
+    ensures answer { due_answer result ≡ index_answer name.now.items wave.now book.now }
+    ensures ready { IsReady result }
 {
     match find(book, name, wave) {
         Ok(picked) => index_of(&picked, wave),
@@ -81,7 +106,8 @@ fn index_over(book: &GlassBook, name: &Name, wave: &Dec) -> Due
 
 /// The line of the index of a glass.
 fn index_of(picked: &Picked<'_>, wave: &Dec) -> Due
-    ensures { due_answer result ≡ answer Status.Done (index_line picked.now.glass.name.items wave.now picked.now.index) }
+    ensures answer { due_answer result ≡ answer Status.Done (index_line picked.now.glass.name.items wave.now picked.now.index) }
+    ensures ready { IsReady result }
 {
     let mut text = Line::new();
     print_index(&picked.glass.name, wave, picked.index, &mut text);

@@ -1,15 +1,16 @@
 //! The writing of what is due.
 
-ghost use Rattle.std.specs.Prelude.{◌≡◌, ◌≢◌, OnOk, OnErr, is_ok, if◌then◌else◌};
+ghost use Rattle.std.specs.Prelude.{◌≡◌, ◌≢◌, ◌+◌, OnOk, OnErr, is_ok, if◌then◌else◌};
 ghost use Rattle.lensio.specs.Count.{Rose};
 ghost use Rattle.lensio.specs.Taken.{Takes, TakesFront};
 ghost use Rattle.lensmodel.specs.Texts.Book.{book_text};
 ghost use Rattle.lensmodel.specs.Texts.Lens.{lens_text};
-ghost use Rattle.lensrun.specs.Due.{due_answer, Delivers};
+ghost use Rattle.lensrun.specs.Due.{due_answer, preparations, Delivers, DueHolds, IsReady};
 
 use crate::due::Due;
 use crate::lines::{Wavelengths, gather_surfaces};
 use crate::report::{Piece, gather_line, gather_lines};
+use crate::trace::write_trace;
 use glassbook::book::GlassBook;
 use lensio::shelf::Failed;
 use lensio::sink::Sink;
@@ -18,18 +19,28 @@ use lensmodel::status::Status;
 use lensreport::glass::print_glasses;
 use lensreport::lens::print_lens;
 use lensreport::pieces::Line;
+use sagform::steps::Steps;
+use std::sync::ledger::Ledger;
 use zmxread::file::ZmxFile;
 
-/// Writes what is due, and answers how the call ends.
-pub fn deliver<K: Sink>(due: &Due, out: &mut K) -> Status
-    ensures delivers { Delivers (due_answer due.now) result (K.taken out.old) (K.taken out.new) (K.faults out.old) (K.faults out.new) }
+/// Writes what is due, and answers how the call ends. Each surface of a lens that is traced is
+/// prepared once at each scale, which counts a step.
+pub fn deliver<K: Sink, L: Ledger>(due: Due, out: &mut K, steps: &mut Steps<L>) -> Status
+    requires { IsReady due }
+    ensures delivers { Delivers (due_answer due) result (K.taken out.old) (K.taken out.new) (K.faults out.old) (K.faults out.new) }
     ensures taken { result ≢ Status.WriteFault → K.faults out.new ≡ K.faults out.old }
-    ensures nothing { due.now ≡ Due.Nothing → result ≡ Status.Memory }
+    ensures nothing { due ≡ Due.Nothing → result ≡ Status.Memory }
+    ensures holds { result ≡ Status.Done → DueHolds due }
+    ensures steps { steps.new ≡ steps.old + preparations due }
 {
     match due {
-        Due::Line { status, text } => ended(put(out, text.as_str().as_bytes()), *status),
-        Due::Glasses(book) => ended(write_book(book, out), Status::Done),
-        Due::Lens(file) => ended(write_lens(file, out), Status::Done),
+        Due::Line { status, text } => ended(put(out, text.as_str().as_bytes()), status),
+        Due::Glasses(book) => ended(write_book(&book, out), Status::Done),
+        Due::Lens(file) => ended(write_lens(&file, out), Status::Done),
+        Due::Trace(mut t) => ended(
+            write_trace(&t.setup, &t.job, &mut t.bench, out, steps),
+            Status::Done,
+        ),
         Due::Nothing => Status::Memory,
     }
 }

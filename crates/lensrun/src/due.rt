@@ -1,17 +1,20 @@
 //! What a call is due to write.
 
 ghost use Rattle.std.specs.Prelude.{◌≡◌, ◌≢◌};
-ghost use Rattle.lensmodel.specs.Texts.FaultText.{usage_line, refused_line, crossed_line, agf_cause, zmx_cause};
+ghost use Rattle.lensmodel.specs.Texts.FaultText.{usage_line, refused_line, crossed_line, agf_cause, job_cause, tol_cause, zmx_cause};
 ghost use Rattle.lensmodel.specs.Call.Answer.{answer};
 ghost use Rattle.lensrun.specs.Due.{due_answer, unread_answer};
 
 use glassbook::book::GlassBook;
+use ladder::bench::Bench;
 use lensio::transfer::SlurpFault;
-use lensmodel::fault::{AgfFault, CrossFault, ZmxFault};
+use lensmodel::fault::{AgfFault, CrossFault, JobFault, TolFault, ZmxFault};
+use lensmodel::job::Job;
+use lensmodel::setup::Setup;
 use lensmodel::status::{FileKind, Status};
 use lensreport::faults::{
-    print_absent, print_agf_fault, print_cross_fault, print_read_fault, print_too_long,
-    print_usage, print_zmx_fault,
+    print_absent, print_agf_fault, print_cross_fault, print_job_fault, print_read_fault,
+    print_tol_fault, print_too_long, print_usage, print_zmx_fault,
 };
 use lensreport::pieces::Line;
 use zmxread::file::ZmxFile;
@@ -30,8 +33,21 @@ pub enum Due {
     Glasses(GlassBook),
     /// The prescription of a lens, with which the call is done.
     Lens(ZmxFile),
+    /// The rows of the rays of a job, with which the call is done.
+    Trace(Tracing),
     /// Nothing, for want of memory.
     Nothing,
+}
+
+/// A lens whose rays are to be traced.
+#[derive(Drop)]
+pub struct Tracing {
+    /// The lens with its media and its job's settings.
+    pub setup: Setup,
+    /// The job.
+    pub job: Job,
+    /// Room for the prepared surfaces.
+    pub bench: Bench,
 }
 
 /// Words that fit no command.
@@ -96,6 +112,38 @@ pub fn refused_lens(fault: ZmxFault) -> Due
     }
     let mut text = Line::new();
     print_zmx_fault(fault, &mut text);
+    Due::Line {
+        status: Status::Refused,
+        text,
+    }
+}
+
+/// A job that is refused; nothing where memory was wanting.
+pub fn refused_job(fault: JobFault) -> Due
+    ensures answer { fault ≢ JobFault.Memory → due_answer result ≡ answer Status.Refused (refused_line FileKind.Job (job_cause fault)) }
+    ensures nothing { fault ≡ JobFault.Memory → result ≡ Due.Nothing }
+{
+    if fault == JobFault::Memory {
+        return Due::Nothing;
+    }
+    let mut text = Line::new();
+    print_job_fault(fault, &mut text);
+    Due::Line {
+        status: Status::Refused,
+        text,
+    }
+}
+
+/// A box that is refused; nothing where memory was wanting.
+pub fn refused_box(fault: TolFault) -> Due
+    ensures answer { fault ≢ TolFault.Memory → due_answer result ≡ answer Status.Refused (refused_line FileKind.Tol (tol_cause fault)) }
+    ensures nothing { fault ≡ TolFault.Memory → result ≡ Due.Nothing }
+{
+    if fault == TolFault::Memory {
+        return Due::Nothing;
+    }
+    let mut text = Line::new();
+    print_tol_fault(fault, &mut text);
     Due::Line {
         status: Status::Refused,
         text,

@@ -4,10 +4,13 @@
 mod answer;
 mod deliver;
 mod due;
+mod files;
 mod gather;
+mod joined;
 mod lines;
 mod report;
 pub mod run;
 #[cfg(test)]
 mod tests;
+mod trace;
 pub mod words;

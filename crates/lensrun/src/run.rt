@@ -1,10 +1,10 @@
 //! The top call: from the words and the files to the status and the text.
 
-ghost use Rattle.std.specs.Prelude.{◌≡◌, ◌≢◌, ◌+◌, ◌⊎◌, ◌<◌, [], None, map};
+ghost use Rattle.std.specs.Prelude.{◌≡◌, ◌≢◌, ◌+◌, ◌*◌, ◌⊎◌, ◌<◌, [], None, length, map};
 ghost use Rattle.lensio.specs.Count.{Rose, RoseBy};
 ghost use Rattle.lensio.specs.Taken.{Takes, TakesFront};
 ghost use Rattle.lensrun.specs.Built.{command_of};
-ghost use Rattle.lensrun.specs.Promise.{IsComplete, IsDecided, IsDue, OfFiles, WritesDueFront, WritesReadFault, WritesReadFaultFront, names_of};
+ghost use Rattle.lensrun.specs.Promise.{IsComplete, IsDecided, IsDue, MakesNoReport, OfFiles, Prepares, WritesDueFront, WritesReadFault, WritesReadFaultFront, names_of};
 
 use crate::deliver::deliver;
 use crate::gather::gather;
@@ -18,7 +18,8 @@ use std::sync::ledger::Ledger;
 
 /// Does what the words ask: reads the files from the shelf, checks them, and writes the report to
 /// the sink. On every status but `Done`, `WriteFault` and `Memory` the text is one fault line; with
-/// `Memory`, which is free where the words fit a command, nothing is written. Each prepared surface counts a step.
+/// `Memory`, which is free where the words fit a command, nothing is written. Each surface that is
+/// prepared counts a step.
 pub fn run<F: Shelf, K: Sink, L: Ledger>(
     alloc: Global,
     words: &[Vec<u8>],
@@ -26,8 +27,9 @@ pub fn run<F: Shelf, K: Sink, L: Ledger>(
     out: &mut K,
     steps: &mut Steps<L>,
 ) -> Status
-    // No command prepares a surface.
-    ensures prepared { steps.new ≡ steps.old }
+    // Only a trace prepares surfaces: each of the lens once at each scale, whatever the number of rays.
+    ensures steps { Prepares (F.held shelf.old) (map (λ w. w.items) words.now) steps.old steps.new }
+    ensures no_steps { MakesNoReport result → steps.new ≡ steps.old }
 
     // The status and the text that are due, unless the outside fails.
     ensures outcome { let said = map (λ w. w.items) words.now in IsDecided result → OfFiles (F.held shelf.old) (IsDue said result (K.taken out.old) (K.taken out.new)) }
@@ -42,7 +44,8 @@ pub fn run<F: Shelf, K: Sink, L: Ledger>(
     ensures absent { result ≡ Status.Absent → Rose (F.absences shelf.old) (F.absences shelf.new) }
     ensures read_fault { result ≡ Status.ReadFault → Rose (F.faults shelf.old) (F.faults shelf.new) }
     ensures too_long { result ≡ Status.TooLong → RoseBy (FILE_LIMIT + 1) (F.given shelf.old) (F.given shelf.new) }
-    ensures too_long_where { F.given shelf.old + FILE_LIMIT < F.given shelf.new → (result ≡ Status.TooLong) ⊎ (result ≡ Status.WriteFault) }
+    ensures too_long_where { let files = length (names_of (command_of (map (λ w. w.items) words.now))) in
+        F.given shelf.old + files * FILE_LIMIT < F.given shelf.new → (result ≡ Status.TooLong) ⊎ (result ≡ Status.WriteFault) }
     ensures write_fault { result ≡ Status.WriteFault → Rose (K.faults out.old) (K.faults out.new) }
     ensures calm { result ≢ Status.ReadFault → result ≢ Status.WriteFault → F.faults shelf.new ≡ F.faults shelf.old }
     ensures found { result ≢ Status.Absent → result ≢ Status.WriteFault → F.absences shelf.new ≡ F.absences shelf.old }
@@ -50,10 +53,10 @@ pub fn run<F: Shelf, K: Sink, L: Ledger>(
 
     // What is written where the outside fails: the line of a failed read, a front of the text of a
     // sink that fails, and nothing for want of memory.
-    ensures read_fault_text { let said = map (λ w. w.items) words.now in result ≡ Status.ReadFault → WritesReadFault said (K.taken out.old) (K.taken out.new) }
+    ensures read_fault_text { let said = map (λ w. w.items) words.now in result ≡ Status.ReadFault → WritesReadFault (F.held shelf.old) said (K.taken out.old) (K.taken out.new) }
     ensures front { let said = map (λ w. w.items) words.now in result ≡ Status.WriteFault →
         WritesDueFront (F.held shelf.old) said (K.taken out.old) (K.taken out.new)
-        ⊎ (Rose (F.faults shelf.old) (F.faults shelf.new) × WritesReadFaultFront said (K.taken out.old) (K.taken out.new)) }
+        ⊎ (Rose (F.faults shelf.old) (F.faults shelf.new) × WritesReadFaultFront (F.held shelf.old) said (K.taken out.old) (K.taken out.new)) }
     ensures silent { result ≡ Status.Memory → Takes (K.taken out.old) (K.taken out.new) [] }
 
     // Where nothing of the outside fails, a report that is due is written, unless memory is wanting.
@@ -61,7 +64,6 @@ pub fn run<F: Shelf, K: Sink, L: Ledger>(
         ¬ Rose (F.absences shelf.old) (F.absences shelf.new) → ¬ Rose (F.faults shelf.old) (F.faults shelf.new) → ¬ Rose (K.faults out.old) (K.faults out.new)
         → IsComplete (F.held shelf.old) said result }
 {
-    let _steps = steps;
     let due = gather(alloc, words, shelf);
-    deliver(&due, out)
+    deliver(due, out, steps)
 }

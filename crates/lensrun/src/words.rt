@@ -1,18 +1,18 @@
 //! The words of a call.
 
-ghost use Rattle.std.specs.Prelude.{◌≡◌, map, [], ◌∷◌, IfSome, option_map};
+ghost use Rattle.std.specs.Prelude.{◌≡◌, map, IfSome, option_map};
 ghost use Rattle.lensmodel.specs.Call.Glass as glass;
 ghost use Rattle.lensmodel.specs.Call.Index as index;
+ghost use Rattle.lensmodel.specs.Call.Inputs as files;
 ghost use Rattle.lensmodel.specs.Call.Read as read;
 ghost use Rattle.lensmodel.specs.Call.TopCall as top;
 ghost use Rattle.lensrun.specs.Built.{command_of, is_built};
-ghost use Rattle.lensrun.specs.Asked.{asked, asked_if, kind_of, name_of, HasWavelength, name_within};
+ghost use Rattle.lensrun.specs.Asked.{asked_if, inputs_if, HasWavelength, name_within};
 
 use arrayvec::ArrayVec;
 use exactdec::read;
 use fixdec::dec::Dec;
 use lensmodel::name::Name;
-use lensmodel::status::FileKind;
 
 /// What the words of a call ask for.
 #[derive(Debug, Drop)]
@@ -36,30 +36,21 @@ pub enum Command<'a> {
         /// The name of the lens's file.
         lens: &'a [u8],
     },
+    /// `trace ZMX AGF JOB [TOL]`: the rows of all rays of a job.
+    Trace(Inputs<'a>),
 }
 
-impl<'a> Command<'a> {
-    /// What its file is.
-    pub fn kind(&self) -> FileKind
-        ensures { result ≡ kind_of self.now }
-    {
-        match self {
-            Command::Index { .. } | Command::Glass { .. } => FileKind::Agf,
-            Command::Read { .. } => FileKind::Zmx,
-        }
-    }
-
-    /// The name of its file.
-    pub fn name(&self) -> &'a [u8]
-        ensures name { result.now ≡ name_of self.now }
-        ensures files { top.files_of (asked self.now) ≡ (kind_of self.now, result.now) ∷ [] }
-    {
-        match self {
-            Command::Index { catalogue, .. } => catalogue,
-            Command::Glass { catalogue } => catalogue,
-            Command::Read { lens } => lens,
-        }
-    }
+/// The names of the files of a trace.
+#[derive(Clone, Copy, Debug, Drop)]
+pub struct Inputs<'a> {
+    /// The lens's.
+    pub lens: &'a [u8],
+    /// The catalogue's.
+    pub catalogue: &'a [u8],
+    /// The job's.
+    pub job: &'a [u8],
+    /// The box's, where there is one.
+    pub tolerances: Option<&'a [u8]>,
 }
 
 /// The bytes as 16-bit units; None where there are more than `N`.
@@ -142,6 +133,31 @@ fn read_words(words: &[Vec<u8>]) -> Option<Command<'_>>
     })
 }
 
+/// The files of a trace.
+fn inputs(words: &[Vec<u8>]) -> Option<Inputs<'_>>
+    ensures { inputs_if result ≡ files.boxed_inputs (map (λ w. w.items) words.now) }
+{
+    let (lens, catalogue, job, tolerances) = match words {
+        [lens, catalogue, job] => (lens, catalogue, job, None),
+        [lens, catalogue, job, tolerances] => (lens, catalogue, job, Some(tolerances.as_slice())),
+        _ => return None,
+    };
+    Some(Inputs {
+        lens: lens.as_slice(),
+        catalogue: catalogue.as_slice(),
+        job: job.as_slice(),
+        tolerances,
+    })
+}
+
+/// The words after `trace`.
+fn trace_words(words: &[Vec<u8>]) -> Option<Command<'_>>
+    ensures exact { asked_if result ≡ option_map top.trace (files.boxed_inputs (map (λ w. w.items) words.now)) }
+    ensures wave { IfSome result HasWavelength }
+{
+    Some(Command::Trace(inputs(words)?))
+}
+
 /// The command that the words ask for; None where they fit no command.
 pub fn command_of(words: &[Vec<u8>]) -> Option<Command<'_>>
     ensures exact { asked_if result ≡ command_of (map (λ w. w.items) words.now) }
@@ -154,6 +170,8 @@ pub fn command_of(words: &[Vec<u8>]) -> Option<Command<'_>>
         glass_words(rest)
     } else if name.as_slice() == b"read".as_slice() {
         read_words(rest)
+    } else if name.as_slice() == b"trace".as_slice() {
+        trace_words(rest)
     } else {
         None
     }
