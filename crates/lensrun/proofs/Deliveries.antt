@@ -1,62 +1,126 @@
 -- What was delivered, where it was the outcome.
-use Rattle.std.proofs.Common.{◌≡◌, ◌≢◌, ◌⊎◌, ℕ, List, subst, ap, sym, refl, ◌∙◌, inl, inr}
-use Rattle.std.specs.Prelude.{Option}
-use Rattle.lensio.specs.Taken.{Takes, TakesFront}
+use Rattle.std.proofs.Common.{◌≡◌, ◌≢◌, ◌⊎◌, ℕ, ◌+◌, ◌*◌, List, [], Option, Some, None, subst, ap, sym, refl, ◌∙◌, inl, inr, arith}
+use Rattle.lensio.specs.Count.{Rose}
 use Rattle.lensio.specs.Held.{Files}
+use Rattle.lensio.specs.Taken.{Takes, TakesFront}
 use Rattle.lensmodel.specs.Call.Answer.{Contents, Answer}
-use Rattle.lensrun.specs.Built.{command_of, outcome}
+use Rattle.lensmodel.specs.Call.TopCall.{Command, command_answer, index, glass, read, trace, trace_json, first, seidel}
+use Rattle.lensmodel.specs.Setup.Values.{image}
 use Rattle.lensmodel.specs.declared.status.Status.{Status}
 use Rattle.lensmodel.specs.declared.status.Status.TheVariants.{Done, Usage, Refused, Absent, ReadFault, TooLong, WriteFault, Memory}
-use Rattle.lensrun.specs.Due.{Delivers}
-use Rattle.lensrun.specs.Promise.{OfFiles, IsDecided, IsDue, IsReadFaultLine, WritesDueFront, WritesReadFaultFront}
-use Rattle.lensrun.proofs.Meaning.{outcome-means}
+use Rattle.lensrun.specs.Built.{command_of, outcome}
+use Rattle.lensrun.specs.Due.{due_answer, preparations, Delivers, DueHolds, IsNoTrace, RestsOn}
+use Rattle.lensrun.specs.Promise.{IsAnswered, IsComplete, IsDecided, IsDue, IsDueOf, IsReadFaultLine, MakesNoReport, OfFiles, Prepares, PreparesLens, WritesDueFront, WritesReadFault, WritesReadFaultFront, by_name}
+use Rattle.lensrun.specs.declared.due.Due.{Due}
+use Rattle.lensrun.specs.declared.due.Due.TheVariants.{Line, Glasses, Lens, Trace, Nothing}
+use Rattle.lensrun.specs.declared.due.Tracing.{Tracing}
+use Rattle.lensrun.proofs.Meaning.{outcome-is, outcome-means}
 use Rattle.lensrun.proofs.Outcomes.{OfFiles-map}
 
--- an outcome that was delivered is what was due
-due_if_taken : (said : List (List ℕ)) (a : Answer) (ended : Status) (old new : Option (List ℕ)) (files : Contents)
-    → ended ≡ a.status → Takes old new a.text → a ≡ outcome files said → IsDue said ended old new files
-due_if_taken said a ended old new files e t is = record {
-  status = e ∙ ap (λ (x : Answer). x.status) is;
-  text = subst (λ (x : Answer). Takes old new x.text) is t;
-  means = outcome-means files said;
-}
+module _ (held : Option Files) (said : List (List ℕ)) (due : Due) (ended : Status) (old new : Option (List ℕ)) (before now : ℕ)
+    (h : IsDueOf held (command_of said) due) (d : Delivers (due_answer due) ended old new before now) where
+  -- the call ended as it was due, unless the sink failed
+  pub ended-as_due : ended ≢ WriteFault → ended ≡ (due_answer due).status
+  ended-as_due sound = elim d [ | inl done ↦ done.0 | inr failed ↦ absurd (sound failed.0) ]
 
-pub due_if_delivered : (held : Option Files) (said : List (List ℕ)) (a : Answer) (ended : Status) (old new : Option (List ℕ)) (before now : ℕ)
-    → Delivers a ended old new before now → (IsDecided a.status → OfFiles held (λ files. a ≡ outcome files said))
-    → IsDecided ended → OfFiles held (IsDue said ended old new)
-due_if_delivered held said a ended old new before now (inl done) due decided =
-    OfFiles-map held (λ files. a ≡ outcome files said) (IsDue said ended old new)
-    (λ files is. due_if_taken said a ended old new files done.0 done.1 is)
-    (due (subst IsDecided done.0 decided))
-due_if_delivered held said a ended old new before now (inr failed) due decided = absurd (subst IsDecided failed.0 decided)
+  due_if_taken : (files : Contents) → (ended ≡ Done → DueHolds due) → ended ≡ (due_answer due).status → Takes old new (due_answer due).text
+      → IsAnswered files (command_of said) due → IsDue said ended old new files
+  due_if_taken files holds e t is =
+      let whole : due_answer due ≡ outcome files said = is.answer ∙ outcome-is files said in
+      record {
+        status = e ∙ ap (λ (x : Answer). x.status) whole;
+        text = subst (λ (x : Answer). Takes old new x.text) whole t;
+        means = outcome-means files said due is (λ done. holds (e ∙ done));
+      }
 
--- ---- a front of what was due, to a sink that failed
-module _ (held : Option Files) (said : List (List ℕ)) (a : Answer) (old new : Option (List ℕ)) (P : Type 0)
-    (due : IsDecided a.status → OfFiles held (λ files. a ≡ outcome files said))
-    (cause : a.status ≡ ReadFault → P) (line : a.status ≡ ReadFault → IsReadFaultLine (command_of said) a.text) where
-  WritesFront : Type 0
-  WritesFront = WritesDueFront held said old new ⊎ (P × WritesReadFaultFront said old new)
+  -- an outcome that was delivered is what was due
+  pub due_if_delivered : (ended ≡ Done → DueHolds due) → IsDecided ended → OfFiles held (IsDue said ended old new)
+  due_if_delivered holds decided = elim d [
+      | inl done ↦
+          OfFiles-map held (λ files. IsAnswered files (command_of said) due) (IsDue said ended old new)
+          (λ files is. due_if_taken files holds done.0 done.1 is) (h.outcome (subst IsDecided done.0 decided))
+      | inr failed ↦ absurd (subst IsDecided failed.0 decided)
+    ]
 
-  front_if_decided : TakesFront old new a.text → IsDecided a.status → WritesFront
-  unfolding WritesFront
-  front_if_decided t decided =
-      inl (OfFiles-map held (λ files. a ≡ outcome files said) (λ files. TakesFront old new (outcome files said).text)
-      (λ files is. subst (λ (x : Answer). TakesFront old new x.text) is t) (due decided))
+  -- ---- a front of what was due, to a sink that failed
+  module _ (P : Type 0) (cause : (due_answer due).status ≡ ReadFault → P) (silent : due ≡ Nothing → ended ≡ Memory) where
+    WritesFront : Type 0
+    WritesFront = WritesDueFront held said old new ⊎ (P × WritesReadFaultFront held said old new)
 
-  front_by : (s : Status) → a.status ≡ s → s ≢ WriteFault → s ≢ Memory → TakesFront old new a.text → WritesFront
-  unfolding WritesFront
-  front_by Done e unsunk unheld t = front_if_decided t (subst IsDecided (sym e) tt)
-  front_by Usage e unsunk unheld t = front_if_decided t (subst IsDecided (sym e) tt)
-  front_by Refused e unsunk unheld t = front_if_decided t (subst IsDecided (sym e) tt)
-  front_by Absent e unsunk unheld t = front_if_decided t (subst IsDecided (sym e) tt)
-  front_by TooLong e unsunk unheld t = front_if_decided t (subst IsDecided (sym e) tt)
-  front_by ReadFault e unsunk unheld t = inr (cause e, (a.text, line e, t))
-  front_by WriteFault e unsunk unheld t = absurd (unsunk refl)
-  front_by Memory e unsunk unheld t = absurd (unheld refl)
+    front_if_decided : TakesFront old new (due_answer due).text → IsDecided (due_answer due).status → WritesFront
+    unfolding WritesFront
+    front_if_decided t decided =
+        inl (OfFiles-map held (λ files. IsAnswered files (command_of said) due) (λ files. TakesFront old new (outcome files said).text)
+        (λ files is. subst (λ (x : Answer). TakesFront old new x.text) (is.answer ∙ outcome-is files said) t) (h.outcome decided))
 
-  pub front_if_delivered : (ended : Status) (before now : ℕ) → Delivers a ended old new before now → ended ≡ WriteFault
-      → a.status ≢ WriteFault → (a.status ≡ Memory → ended ≡ Memory) → WritesDueFront held said old new ⊎ (P × WritesReadFaultFront said old new)
-  unfolding WritesFront
-  front_if_delivered ended before now (inl done) failed unsunk silent = absurd (unsunk (sym done.0 ∙ failed))
-  front_if_delivered ended before now (inr front) failed unsunk silent =
-      front_by a.status refl unsunk (λ (e : a.status ≡ Memory). absurd (cc (sym failed ∙ silent e))) front.2
+    front_by : (s : Status) → (due_answer due).status ≡ s → (s ≢ Memory) → TakesFront old new (due_answer due).text → WritesFront
+    unfolding WritesFront
+    front_by Done e unheld t = front_if_decided t (subst IsDecided (sym e) tt)
+    front_by Usage e unheld t = front_if_decided t (subst IsDecided (sym e) tt)
+    front_by Refused e unheld t = front_if_decided t (subst IsDecided (sym e) tt)
+    front_by Absent e unheld t = front_if_decided t (subst IsDecided (sym e) tt)
+    front_by TooLong e unheld t = front_if_decided t (subst IsDecided (sym e) tt)
+    front_by ReadFault e unheld t = inr (cause e, ((due_answer due).text, h.read_fault e, t))
+    front_by WriteFault e unheld t = absurd (h.no_write e)
+    front_by Memory e unheld t = absurd (unheld refl)
+
+    pub front_if_delivered : ended ≡ WriteFault → WritesDueFront held said old new ⊎ (P × WritesReadFaultFront held said old new)
+    unfolding WritesFront
+    front_if_delivered failed = elim d [
+        | inl done ↦ absurd (h.no_write (sym done.0 ∙ failed))
+        | inr front ↦ front_by (due_answer due).status refl (λ e. cc (sym failed ∙ silent (h.nothing e))) front.1.1
+      ]
+
+  -- the line of a failed read
+  pub read_fault_if_delivered : ended ≡ ReadFault → WritesReadFault held said old new
+  read_fault_if_delivered is = elim d [
+      | inl done ↦ ((due_answer due).text, h.read_fault (sym done.0 ∙ is), done.1)
+      | inr failed ↦ absurd (cc (sym is ∙ failed.0))
+    ]
+
+  -- nothing for want of memory
+  pub silent_if_delivered : ended ≡ Memory → Takes old new []
+  silent_if_delivered is = elim d [
+      | inl done ↦ subst (λ (x : Due). Takes old new (due_answer x).text) (h.nothing (sym done.0 ∙ is)) done.1
+      | inr failed ↦ absurd (cc (sym is ∙ failed.0))
+    ]
+
+  -- ---- the surfaces that were prepared
+  module _ (steps steps' : ℕ) (risen : steps' ≡ steps + preparations due) where
+    pub no_report-no_steps : MakesNoReport ended → steps' ≡ steps
+    no_report-no_steps none = by due refl
+      where
+        by : (x : Due) → due ≡ x → steps' ≡ steps
+        by (Line status text) e = risen ∙ ap (λ y. steps + preparations y) e ∙ omega arith
+        by (Glasses book) e = risen ∙ ap (λ y. steps + preparations y) e ∙ omega arith
+        by (Lens file) e = risen ∙ ap (λ y. steps + preparations y) e ∙ omega arith
+        by Nothing e = risen ∙ ap (λ y. steps + preparations y) e ∙ omega arith
+        by (Trace t) e = elim d [
+            | inl done ↦ absurd (subst MakesNoReport (done.0 ∙ ap (λ (y : Due). (due_answer y).status) e) none)
+            | inr failed ↦ absurd (subst MakesNoReport failed.0 none)
+          ]
+
+    prepares_by : (t : Tracing) → due ≡ Trace t → (files : Contents) (c : Option Command) → IsAnswered files c due → PreparesLens files c steps steps'
+    prepares_by t e files None a = absurd (subst IsNoTrace e a.rests)
+    prepares_by t e files (Some (index i)) a = absurd (subst IsNoTrace e a.rests)
+    prepares_by t e files (Some (glass i)) a = absurd (subst IsNoTrace e a.rests)
+    prepares_by t e files (Some (read i)) a = absurd (subst IsNoTrace e a.rests)
+    prepares_by t e files (Some (trace_json i)) a = absurd (subst IsNoTrace e a.rests)
+    prepares_by t e files (Some (first i)) a = absurd (subst IsNoTrace e a.rests)
+    prepares_by t e files (Some (seidel i)) a = absurd (subst IsNoTrace e a.rests)
+    prepares_by t e files (Some (trace i)) a =
+        let r = a.rests (ap (λ (y : Due). (due_answer y).status) e) in
+        (r.0.setup, r.0.job, r.1.1, risen ∙ ap (λ y. steps + preparations y) r.1.0)
+
+    pub prepares : Prepares held said steps steps'
+    prepares = by due refl
+      where
+        by : (x : Due) → due ≡ x → Prepares held said steps steps'
+        by (Line status text) e = inl (risen ∙ ap (λ y. steps + preparations y) e ∙ omega arith)
+        by (Glasses book) e = inl (risen ∙ ap (λ y. steps + preparations y) e ∙ omega arith)
+        by (Lens file) e = inl (risen ∙ ap (λ y. steps + preparations y) e ∙ omega arith)
+        by Nothing e = inl (risen ∙ ap (λ y. steps + preparations y) e ∙ omega arith)
+        by (Trace t) e =
+            inr (OfFiles-map held (λ files. IsAnswered files (command_of said) due) (λ files. PreparesLens files (command_of said) steps steps')
+            (λ files a. prepares_by t e files (command_of said) a)
+            (h.outcome (subst IsDecided (sym (ap (λ (y : Due). (due_answer y).status) e)) tt)))

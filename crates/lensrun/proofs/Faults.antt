@@ -2,6 +2,10 @@
 use Rattle.std.proofs.Common.{◌≡◌, ◌≢◌, ◌⊎◌, inl, inr, refl}
 use Rattle.lensmodel.specs.declared.fault.AgfFault.{AgfFault}
 use Rattle.lensmodel.specs.declared.fault.AgfFault.TheVariants as agf
+use Rattle.lensmodel.specs.declared.fault.JobFault.{JobFault}
+use Rattle.lensmodel.specs.declared.fault.JobFault.TheVariants as job
+use Rattle.lensmodel.specs.declared.fault.TolFault.{TolFault}
+use Rattle.lensmodel.specs.declared.fault.TolFault.TheVariants as tol
 use Rattle.lensmodel.specs.declared.fault.ZmxFault.{ZmxFault}
 use Rattle.lensmodel.specs.declared.fault.ZmxFault.TheVariants as zmx
 
@@ -33,3 +37,24 @@ lens_memory zmx.MirrorAtObject = inr (λ e. cc)
 lens_memory (zmx.InnerInfinity surface) = inr (λ e. cc)
 lens_memory (zmx.NoZone surface) = inr (λ e. cc)
 lens_memory (zmx.Coefficient surface i) = inr (λ e. cc)
+
+-- whether a job wasn't read for want of memory
+pub job_memory : (f : JobFault) → (f ≡ job.Memory) ⊎ (f ≢ job.Memory)
+job_memory job.Memory = inl refl
+job_memory (job.Text t) = inr (λ e. cc)
+job_memory (job.Word line) = inr (λ e. cc)
+job_memory (job.BadNumber line) = inr (λ e. cc)
+job_memory (job.Missing line) = inr (λ e. cc)
+job_memory (job.Range line) = inr (λ e. cc)
+job_memory job.TooManyRays = inr (λ e. cc)
+
+-- whether a box wasn't read for want of memory
+pub box_memory : (f : TolFault) → (f ≡ tol.Memory) ⊎ (f ≢ tol.Memory)
+box_memory tol.Memory = inl refl
+box_memory (tol.Text t) = inr (λ e. cc)
+box_memory (tol.Word line) = inr (λ e. cc)
+box_memory (tol.BadNumber line) = inr (λ e. cc)
+box_memory (tol.Negative line) = inr (λ e. cc)
+box_memory (tol.NoSurface line) = inr (λ e. cc)
+box_memory (tol.Twice line) = inr (λ e. cc)
+box_memory (tol.TooMany line) = inr (λ e. cc)

@@ -139,7 +139,7 @@ module _ {V F : Type 0} (held : Option Files) (i : Inputs) (file : FileKind) (na
     outcome = λ decided.
         let h = stopped held file name cause reading due none decided in
         OfFiles-map held (ComesTo h.0) (λ files. (go_on : Setup → Job → Answer) → due_answer due ≡ on_inputs files i go_on)
-        (λ files r. λ go_on. h.2.1 (r go_on).0 ∙ sym (r go_on).1) (comes h.0 h.2.0);
+        (λ files r. λ go_on. h.1.1 (r go_on).0 ∙ sym (r go_on).1) (comes h.0 h.1.0);
     read_fault = λ is. at (due_answer due).text (record { line = fault_line held file name cause reading due none is; reached = missing });
     no_report = no_report held file name cause reading due none;
     no_write = no_write held file name cause reading due none;

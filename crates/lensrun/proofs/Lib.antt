@@ -1,4 +1,6 @@
+mod Answered
 mod Books
+mod Counts
 mod Deliveries
 mod Faults
 mod Gathering
@@ -7,4 +9,5 @@ mod Lens
 mod Meaning
 mod Outcomes
 mod Parts
+mod Reading
 mod Stopping

@@ -1,12 +1,14 @@
 -- The outcome of a call means what its command asks for.
-use Rattle.std.proofs.Common.{◌≡◌, ℕ, Bool, true, false, List, [], ◌∷◌, length, Option, Some, None, Result, Ok, Err, refl, if◌then◌else◌}
+use Rattle.std.proofs.Common.{◌≡◌, ℕ, Bool, true, false, List, [], ◌∷◌, length, Option, Some, None, Result, Ok, Err, refl, sym, ap, subst, ◌∙◌, if◌then◌else◌}
 use Rattle.std.specs.Prelude.{nat_lt}
 use Rattle.dispers.specs.IndexAt12.{index_at_12-holds}
 use Rattle.dispers.specs.Picked.{IsPicked, known_if_used, picked-is}
 use Rattle.lensmodel.specs.Call.Answer.{Contents, Answer, answer, on_file, on_read, on_checked}
 use Rattle.lensmodel.specs.Call.Index.{Index, PrintsIndex, index_answer}
+use Rattle.lensmodel.specs.Call.Inputs.{Inputs}
 use Rattle.lensmodel.specs.Call.TopCall as top
 use Rattle.lensmodel.specs.Call.TopCall.{Command, Means, command_answer, command_by, if_built, index, glass, read, trace, trace_json, first, seidel}
+use Rattle.lensmodel.specs.Call.Trace.{PrintsRows}
 use Rattle.lensmodel.specs.Files.Catalogue.{catalogue}
 use Rattle.lensmodel.specs.Files.Picking.{Picked, picked}
 use Rattle.lensmodel.specs.Texts.FaultText.{agf_cause, too_long_line}
@@ -17,6 +19,9 @@ use Rattle.lensmodel.specs.declared.glass.Glass.{Glass}
 use Rattle.lensmodel.specs.declared.status.FileKind.TheVariants.{Agf}
 use Rattle.lensmodel.specs.declared.status.Status.TheVariants.{Done, TooLong}
 use Rattle.lensrun.specs.Built.{command_of, is_built, outcome}
+use Rattle.lensrun.specs.Due.{due_answer, DueHolds, TracingHolds}
+use Rattle.lensrun.specs.Promise.{IsAnswered}
+use Rattle.lensrun.specs.declared.due.Due.{Due}
 
 module _ (files : Contents) (c : Index) where
   -- an answer that is done prints the index
@@ -78,16 +83,35 @@ IsBuilt : Option Command → Type 0
 IsBuilt None = Unit {0}
 IsBuilt (Some c) = is_built c ≡ true
 
-command-means : (files : Contents) (c : Option Command) → IsBuilt c → Means files c (command_answer files c)
+-- the rows of a trace that is done
+module _ (files : Contents) (i : Inputs) (due : Due) where
+  rows-mean : IsAnswered files (Some (trace i)) due → ((due_answer due).status ≡ Done → DueHolds due)
+      → (command_answer files (Some (trace i))).status ≡ Done → PrintsRows files i (command_answer files (Some (trace i))).text
+  rows-mean a holds done =
+      let ended : (due_answer due).status ≡ Done = ap (λ (x : Answer). x.status) a.answer ∙ done in
+      let r = a.rests ended in
+      let t = r.0 in
+      let h : TracingHolds t = subst DueHolds r.1.0 (holds ended) in
+      record {
+        setup = t.setup;
+        job = t.job;
+        inputs = r.1.1;
+        printed = sym (ap (λ (x : Answer). x.text) a.answer) ∙ ap (λ (d : Due). (due_answer d).text) r.1.0;
+        rows = h.rows;
+        spots = h.spots;
+      }
+
+command-means : (files : Contents) (c : Option Command) (due : Due) → IsBuilt c → IsAnswered files c due → ((due_answer due).status ≡ Done → DueHolds due)
+    → Means files c (command_answer files c)
 unfolding PrintsWhenDone IsBuilt
-command-means files None b = tt
-command-means files (Some (index c)) b = index-means files c
-command-means files (Some (glass agf)) b = λ done. tt
-command-means files (Some (read zmx)) b = λ done. tt
-command-means files (Some (trace i)) b = absurd (cc)
-command-means files (Some (trace_json i)) b = absurd (cc)
-command-means files (Some (first i)) b = absurd (cc)
-command-means files (Some (seidel i)) b = absurd (cc)
+command-means files None due b a holds = tt
+command-means files (Some (index c)) due b a holds = index-means files c
+command-means files (Some (glass agf)) due b a holds = λ done. tt
+command-means files (Some (read zmx)) due b a holds = λ done. tt
+command-means files (Some (trace i)) due b a holds = λ done. rows-mean files i due a holds done
+command-means files (Some (trace_json i)) due b a holds = absurd (cc)
+command-means files (Some (first i)) due b a holds = absurd (cc)
+command-means files (Some (seidel i)) due b a holds = absurd (cc)
 
 if_built-is : (o : Option Command) → IsBuilt (if_built is_built o)
 unfolding IsBuilt
@@ -103,7 +127,12 @@ unfolding IsBuilt
 command-is [] = tt
 command-is (word ∷ rest) = if_built-is (command_by word rest)
 
--- what the words ask for is what the outcome means
-pub outcome-means : (files : Contents) (words : List (List ℕ)) → Means files (command_of words) (outcome files words)
+-- what is due is the outcome, and means what the words ask for
+pub outcome-is : (files : Contents) (words : List (List ℕ)) → command_answer files (command_of words) ≡ outcome files words
 unfolding top.outcome
-outcome-means files words = command-means files (command_of words) (command-is words)
+outcome-is files words = refl
+
+pub outcome-means : (files : Contents) (words : List (List ℕ)) (due : Due) → IsAnswered files (command_of words) due
+    → ((due_answer due).status ≡ Done → DueHolds due) → Means files (command_of words) (outcome files words)
+unfolding top.outcome
+outcome-means files words due a holds = command-means files (command_of words) due (command-is words) a holds

@@ -68,7 +68,7 @@ module _ {V F : Type 0} (held : Option Files) (kind : FileKind) (name : List ℕ
       ⊎ IsRefusal (due_answer due).status
   stop_status due (inl is) = inl (ap (λ (d : Due). (due_answer d).status) is, is)
   stop_status due (inr (inl is)) = inr (inl (ap (λ (x : Answer). x.status) is, ap (λ (x : Answer). x.text) is))
-  stop_status due (inr (inr h)) = inr (inr (refusal h.0 (due_answer due) h.2))
+  stop_status due (inr (inr h)) = inr (inr (refusal h.0 (due_answer due) h.1.1))
 
   -- what it answers where the outside doesn't decide
   pub stopped : (due : Due) → GivesNone held kind name cause reading due → IsDecided (due_answer due).status

@@ -57,14 +57,19 @@ abbrev pub preparations : Due → ℕ
 preparations (Trace t) = 4 * image t.setup
 preparations due = 0
 
+-- what is due is no report of a trace
+abbrev pub IsNoTrace : Due → Type 0
+IsNoTrace (Trace t) = ⊥
+IsNoTrace due = Unit {0}
+
 -- what is due is the report of a trace of these files
 abbrev pub IsTraceOf : Contents → Inputs → Due → Type 0
 IsTraceOf files i due = (t : Tracing) × (due ≡ Trace t) × AreInputs files i t.setup t.job
 
--- the report that is due is that of the command's files
+-- a trace is due for the command trace alone, and its report is that of the command's files
 abbrev pub RestsOn : Contents → Option Command → Due → Type 0
 RestsOn files (Some (trace i)) due = (due_answer due).status ≡ Done → IsTraceOf files i due
-RestsOn files c due = Unit {0}
+RestsOn files c due = IsNoTrace due
 
 -- a file that isn't read
 abbrev pub unread_answer : FileKind → SlurpFault → Answer
