@@ -1,6 +1,6 @@
 -- What was delivered, where it was the outcome.
-use Rattle.std.proofs.Common.{◌≡◌, ◌≢◌, ◌⊎◌, ℕ, ◌+◌, ◌*◌, List, [], Option, Some, None, subst, ap, sym, refl, ◌∙◌, inl, inr, arith}
-use Rattle.lensio.specs.Count.{Rose}
+use Rattle.std.proofs.Common.{◌≡◌, ◌≢◌, ◌⊎◌, ℕ, ◌+◌, ◌*◌, ◌<◌, List, [], Option, Some, None, subst, ap, sym, refl, ◌∙◌, inl, inr, arith}
+use Rattle.lensio.specs.Count.{Rose, RoseBy}
 use Rattle.lensio.specs.Held.{Files}
 use Rattle.lensio.specs.Taken.{Takes, TakesFront}
 use Rattle.lensmodel.specs.Call.Answer.{Contents, Answer}
@@ -10,6 +10,7 @@ use Rattle.lensmodel.specs.declared.status.Status.{Status}
 use Rattle.lensmodel.specs.declared.status.Status.TheVariants.{Done, Usage, Refused, Absent, ReadFault, TooLong, WriteFault, Memory}
 use Rattle.lensrun.specs.Built.{command_of, outcome}
 use Rattle.lensrun.specs.Due.{due_answer, preparations, Delivers, DueHolds, IsNoTrace, RestsOn}
+use Rattle.lensrun.specs.Found.{IsCounted}
 use Rattle.lensrun.specs.Promise.{IsAnswered, IsComplete, IsDecided, IsDue, IsDueOf, IsReadFaultLine, MakesNoReport, OfFiles, Prepares, PreparesLens, WritesDueFront, WritesReadFault, WritesReadFaultFront, by_name}
 use Rattle.lensrun.specs.declared.due.Due.{Due}
 use Rattle.lensrun.specs.declared.due.Due.TheVariants.{Line, Glasses, Lens, Trace, Nothing}
@@ -124,3 +125,77 @@ module _ (held : Option Files) (said : List (List ℕ)) (due : Due) (ended : Sta
             inr (OfFiles-map held (λ files. IsAnswered files (command_of said) due) (λ files. PreparesLens files (command_of said) steps steps')
             (λ files a. prepares_by t e files (command_of said) a)
             (h.outcome (subst IsDecided (sym (ap (λ (y : Due). (due_answer y).status) e)) tt)))
+
+-- ---- what the outside counted
+module _ (held : Option Files) (said : List (List ℕ)) (due : Due) (ended : Status) (old new : Option (List ℕ)) (before now : ℕ)
+    (h : IsDueOf held (command_of said) due) (d : Delivers (due_answer due) ended old new before now)
+    (n f f' a a' g g' : ℕ) (counts : IsCounted (Some (due_answer due).status) n f f' a a' g g') where
+  as_due : ended ≢ WriteFault → ended ≡ (due_answer due).status
+  as_due = ended-as_due held said due ended old new before now h d
+
+  pub absent-counted : ended ≡ Absent → Rose a a'
+  absent-counted e = counts.absent (ap Some (sym (as_due (λ w. cc (sym e ∙ w))) ∙ e))
+
+  pub read_fault-counted : ended ≡ ReadFault → Rose f f'
+  read_fault-counted e = counts.read_fault (ap Some (sym (as_due (λ w. cc (sym e ∙ w))) ∙ e))
+
+  pub too_long-counted : ended ≡ TooLong → RoseBy 16_777_217 g g'
+  too_long-counted e = counts.too_long (ap Some (sym (as_due (λ w. cc (sym e ∙ w))) ∙ e))
+
+  some-same : {s t : Status} → Some s ≡ Some t → s ≡ t
+  some-same is = cc is
+
+  pub calm-counted : ended ≢ ReadFault → ended ≢ WriteFault → f' ≡ f
+  calm-counted not sound = counts.calm (λ e. not (as_due sound ∙ some-same e))
+
+  pub found-counted : ended ≢ Absent → ended ≢ WriteFault → a' ≡ a
+  found-counted not sound = counts.found (λ e. not (as_due sound ∙ some-same e))
+
+  is_too_long : (s : Status) → (s ≡ TooLong) ⊎ (s ≢ TooLong)
+  is_too_long TooLong = inl refl
+  is_too_long Done = inr (λ e. cc)
+  is_too_long Usage = inr (λ e. cc)
+  is_too_long Refused = inr (λ e. cc)
+  is_too_long Absent = inr (λ e. cc)
+  is_too_long ReadFault = inr (λ e. cc)
+  is_too_long WriteFault = inr (λ e. cc)
+  is_too_long Memory = inr (λ e. cc)
+
+  pub too_long-where : g + n * 16_777_216 < g' → (ended ≡ TooLong) ⊎ (ended ≡ WriteFault)
+  too_long-where more = elim (is_too_long (due_answer due).status) [
+      | inl is ↦ elim d [ | inl done ↦ inl (done.0 ∙ is) | inr failed ↦ inr failed.0 ]
+      | inr not ↦ let w = counts.within (λ e. not (some-same e)) in absurd (omega (arith, more, w))
+    ]
+
+  -- a report that is due is written where nothing of the outside fails
+  complete_by : (files : Files) → held ≡ Some files → ¬ Rose f f' → ¬ Rose before now → (outcome (by_name files) said).status ≡ Done
+      → (s : Status) → (due_answer due).status ≡ s → (ended ≡ Done) ⊎ (ended ≡ Memory)
+  complete_by files told calm sound done s e = elim d [
+      | inr failed ↦ absurd (sound failed.1.0)
+      | inl ends ↦ by s e
+    ]
+    where
+      ends-done : IsDecided (due_answer due).status → (due_answer due).status ≡ Done
+      ends-done decided =
+          let a : IsAnswered (by_name files) (command_of said) due = subst (λ (o : Option Files). OfFiles o (λ files. IsAnswered files (command_of said) due)) told (h.outcome decided) in
+          ap (λ (x : Answer). x.status) (a.answer ∙ outcome-is (by_name files) said) ∙ done
+
+      sound-end : ended ≡ (due_answer due).status
+      sound-end = elim d [ | inl ends ↦ ends.0 | inr failed ↦ absurd (sound failed.1.0) ]
+
+      by : (s : Status) → (due_answer due).status ≡ s → (ended ≡ Done) ⊎ (ended ≡ Memory)
+      by Done e = inl (sound-end ∙ e)
+      by Memory e = inr (sound-end ∙ e)
+      by Usage e = inl (sound-end ∙ ends-done (subst IsDecided (sym e) tt))
+      by Refused e = inl (sound-end ∙ ends-done (subst IsDecided (sym e) tt))
+      by Absent e = inl (sound-end ∙ ends-done (subst IsDecided (sym e) tt))
+      by TooLong e = inl (sound-end ∙ ends-done (subst IsDecided (sym e) tt))
+      by ReadFault e = absurd (calm (counts.read_fault (ap Some e)))
+      by WriteFault e = absurd (h.no_write e)
+
+  pub complete : ¬ Rose f f' → ¬ Rose before now → IsComplete held said ended
+  complete calm sound = by held refl
+    where
+      by : (o : Option Files) → held ≡ o → IsComplete o said ended
+      by None told = tt
+      by (Some files) told = λ done. complete_by files told calm sound done (due_answer due).status refl

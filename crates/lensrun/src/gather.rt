@@ -2,6 +2,8 @@
 
 ghost use Rattle.std.specs.Prelude.{◌≡◌, None, Some, length, map};
 ghost use Rattle.lensio.specs.Taken.{TakesFront};
+ghost use Rattle.lensmodel.specs.Call.Answer.{answer};
+ghost use Rattle.lensmodel.specs.Texts.FaultText.{usage_line};
 ghost use Rattle.lensrun.specs.Built as top;
 ghost use Rattle.lensrun.specs.Due.{due_answer, IsReady};
 ghost use Rattle.lensrun.specs.Found.{IsCounted};
@@ -11,6 +13,7 @@ use crate::answer::{glass_due, index_due, read_due, trace_due};
 use crate::due::{Due, usage};
 use crate::words::{Command, command_of};
 use lensio::shelf::Shelf;
+use lensmodel::status::Status;
 use std::alloc::Global;
 
 /// What a call is due to write: takes the words, reads the files that they name, and checks them.
@@ -18,6 +21,7 @@ pub fn gather<F: Shelf>(alloc: Global, words: &[Vec<u8>], shelf: &mut F) -> Due
     // The answer of the words and the files, unless the outside decides.
     ensures due { IsDueOf (F.held shelf.old) (top.command_of (map (λ w. w.items) words.now)) result }
     ensures ready { IsReady result }
+    ensures usage { top.command_of (map (λ w. w.items) words.now) ≡ None → due_answer result ≡ answer Status.Usage usage_line }
 
     // The shelf is asked for the files of the command alone, in their order, and isn't touched where
     // there is none.

@@ -134,7 +134,7 @@ fn read_words(words: &[Vec<u8>]) -> Option<Command<'_>>
 }
 
 /// The files of a trace.
-fn inputs(words: &[Vec<u8>]) -> Option<Inputs<'_>>
+fn input_names(words: &[Vec<u8>]) -> Option<Inputs<'_>>
     ensures { inputs_if result ≡ files.boxed_inputs (map (λ w. w.items) words.now) }
 {
     let (lens, catalogue, job, tolerances) = match words {
@@ -155,7 +155,7 @@ fn trace_words(words: &[Vec<u8>]) -> Option<Command<'_>>
     ensures exact { asked_if result ≡ option_map top.trace (files.boxed_inputs (map (λ w. w.items) words.now)) }
     ensures wave { IfSome result HasWavelength }
 {
-    Some(Command::Trace(inputs(words)?))
+    Some(Command::Trace(input_names(words)?))
 }
 
 /// The command that the words ask for; None where they fit no command.
