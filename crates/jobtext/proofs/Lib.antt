@@ -4,3 +4,4 @@ pub mod Growth
 pub mod Offences
 pub mod Steps
 pub mod Lines
+pub mod Ranges

@@ -3,6 +3,7 @@
 ghost use Rattle.std.specs.Prelude.{◌≡◌, ◌≢◌, Ok, Err, IfOk, IfErr};
 ghost use Rattle.lensmodel.specs.Files.Job.{job, of_lines};
 ghost use Rattle.lensmodel.specs.Files.Records.{each_record};
+ghost use Rattle.lensmodel.specs.Setup.WellFormed.{IsInRange};
 
 use crate::walk::Reader;
 use lensmodel::fault::{JobFault, TextFault};
@@ -23,6 +24,8 @@ use std::alloc::Global;
 pub fn read_job(alloc: Global, bytes: &[u8]) -> Result<Job, JobFault>
     // The settings, or their defaults, and the asks in the order of their lines.
     ensures value { IfOk result (λ j. job bytes.now ≡ Ok j) }
+    // Each number of such a job is in its range, and it has at most 10,000 rays in all.
+    ensures sound { IfOk result IsInRange }
     // Each fault, and only where it stands.
     ensures fault { IfErr result (λ f. f ≢ JobFault.Memory → job bytes.now ≡ Err f) }
 {

@@ -3,6 +3,7 @@
 ghost use Rattle.std.specs.Prelude.{◌≡◌, ◌≢◌, ◌-◌, Ok, Err, IfOk, IfErr};
 ghost use Rattle.lensmodel.specs.Files.Records.{each_record};
 ghost use Rattle.lensmodel.specs.Files.Tolerances.{tolerance_box, of_lines};
+ghost use Rattle.lensmodel.specs.Setup.WellFormed.{IsBox};
 
 use crate::walk::Reader;
 use lensmodel::fault::{TextFault, TolFault};
@@ -24,6 +25,9 @@ use std::alloc::Global;
 pub fn read_tol(alloc: Global, bytes: &[u8], surfaces: u32) -> Result<TolBox, TolFault>
     // The tolerances in the order of their lines.
     ensures value { IfOk result (λ b. tolerance_box bytes.now (surfaces - 1) ≡ Ok b) }
+    // They make a box of the lens: at most 32, none below 0, each at a value that the lens has, no
+    // two at one value.
+    ensures sound { IfOk result (λ b. IsBox (surfaces - 1) b.list.items) }
     // Each fault, and only where it stands.
     ensures fault { IfErr result (λ f. f ≢ TolFault.Memory → tolerance_box bytes.now (surfaces - 1) ≡ Err f) }
 {
