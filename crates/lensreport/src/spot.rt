@@ -43,18 +43,17 @@ fn push_mean_square(mean_square: &Step<Span>, out: &mut Line)
 }
 
 /// Appends ` centroid x [..] y [..] msr [..]`, or what is lost of it.
-fn push_statistics(statistics: &Statistics, out: &mut Line)
+fn push_statistics(centroid: &Step<(Span, Span)>, mean_square: &Step<Span>, out: &mut Line)
     requires { array_string_len out.old ≤ 512 }
-    ensures bytes { out.new.bytes ≡ out.old.bytes
-        ++ texts.statistics_text statistics.now.centroid statistics.now.mean_square }
+    ensures bytes { out.new.bytes ≡ out.old.bytes ++ texts.statistics_text centroid.now mean_square.now }
     ensures len { array_string_len out.new ≤ array_string_len out.old + 450 }
 {
-    match &statistics.centroid {
+    match centroid {
         Step::Val((x, y)) => {
             out.push_str(" centroid");
             push_named_span("x", *x, 12, out);
             push_named_span("y", *y, 12, out);
-            push_mean_square(&statistics.mean_square, out);
+            push_mean_square(mean_square, out);
         }
         Step::Empty | Step::Lost(_) => out.push_str(" centroid lost"),
     }
@@ -67,7 +66,7 @@ fn push_statistics_if(statistics: &Option<Statistics>, out: &mut Line)
     ensures len { array_string_len out.new ≤ array_string_len out.old + 450 }
 {
     if let Some(statistics) = statistics {
-        push_statistics(statistics, out);
+        push_statistics(&statistics.centroid, &statistics.mean_square, out);
     }
 }
 
