@@ -1,1 +1,3 @@
 mod Aspheres
+mod JsonObjects
+mod JsonTexts

@@ -1,1 +1,2 @@
+pub mod JsonData
 pub mod UnusedTags
