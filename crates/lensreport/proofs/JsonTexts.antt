@@ -1,11 +1,10 @@
 -- The compact text of a row's data is its line without the newline.
-use Rattle.std.proofs.Common.{◌≡◌, ℕ, zero, suc, ◌+◌, ◌*◌, ◌/◌, ◌%◌, ◌^◌, ◌<◌, ◌≤◌, ◌==◌, Bool, true, false, cond, List, [], ◌∷◌, ◌++◌, Option, Some, None, ℤ, pos, negsuc, codes, refl, sym, ap, ap₂, ◌∙◌, append_assoc, arith}
+use Rattle.std.proofs.Common.{◌≡◌, ℕ, zero, suc, ◌+◌, ◌*◌, ◌/◌, ◌%◌, ◌^◌, ◌<◌, ◌≤◌, ◌==◌, Bool, true, false, cond, List, [], ◌∷◌, ◌++◌, Option, Some, None, ℤ, pos, negsuc, codes, drop, refl, sym, ap, ap₂, ◌∙◌, subst, append_assoc, arith}
+use Rattle.std.proofs.lemmas.Bool.{ne_eqb, le-ltb}
 use Rattle.std.specs.Fmt.{decimal, digits, digits_onto, digit_glyph}
 use Rattle.std.specs.Prelude.{unsigned_abs}
 use Rattle.fixdec.specs.DecimalText.{fix_text, last_digits, minus_sign}
 use Rattle.fixdec.specs.Ends.{Ends}
-use Rattle.json.specs.Print.{escape, escape_byte, quoted}
-use Rattle.json.proofs.Printed.Strings.{escape_byte_plain}
 use Rattle.lensmodel.specs.Texts.JsonRows as rows
 use Rattle.lensmodel.specs.Texts.JsonRows.{json_line}
 use Rattle.lensmodel.specs.Texts.Pieces.{newline, why_text}
@@ -24,92 +23,110 @@ use Rattle.serde_json.specs.Data.{Data, string, number, unsigned, array, object,
 use Rattle.serde_json.specs.Written.{compact_text, has_float, items_have_float, members_have_float}
 
 -- ---- texts that need no escape
-abbrev Plain : List ℕ → Type 0
-Plain s = escape s ≡ s
+abbrev NeedsNoEscape : List ℕ → Type 0
+NeedsNoEscape s = compact_text (string s) ≡ rows.quoted s
 
-escape-append : (s t : List ℕ) → escape (s ++ t) ≡ escape s ++ escape t
-escape-append [] t = refl
-escape-append (x ∷ s) t = ap (λ l. escape_byte x ++ l) (escape-append s t) ∙ sym (append_assoc (escape_byte x) (escape s) (escape t))
+abbrev IsPlain : List ℕ → Type 0
+IsPlain [] = Unit {0}
+IsPlain (x ∷ s) = (35 ≤ x) × (x ≤ 91) × IsPlain s
 
-Plain-append : (s t : List ℕ) → Plain s → Plain t → Plain (s ++ t)
-Plain-append s t ps pt = escape-append s t ∙ ap₂ (λ (a b : List ℕ). a ++ b) ps pt
+-- the text behind the first quotation mark
+abbrev inside : List ℕ → List ℕ
+inside s = drop 1 (compact_text (string s))
 
-Plain-cons : (x : ℕ) (s : List ℕ) → 48 ≤ x → x ≤ 57 → Plain s → Plain (x ∷ s)
-Plain-cons x s low high ps =
-    ap₂ (λ (a b : List ℕ). a ++ b) (escape_byte_plain x (λ e. omega arith) (λ e. omega arith) (omega arith)) ps
+inside-cons : (x : ℕ) (s : List ℕ) → 35 ≤ x → x ≤ 91 → inside (x ∷ s) ≡ x ∷ inside s
+unfolding serde_json_on_literals
+inside-cons x s low high =
+    rw (
+      ne_eqb x 34 (λ e. omega arith),
+      ne_eqb x 92 (λ e. omega arith),
+      ne_eqb x 8 (λ e. omega arith),
+      ne_eqb x 12 (λ e. omega arith),
+      ne_eqb x 10 (λ e. omega arith),
+      ne_eqb x 13 (λ e. omega arith),
+      ne_eqb x 9 (λ e. omega arith),
+      le-ltb x 32 (omega arith),
+    )
 
-last_digit : (n : ℕ) → (48 ≤ 48 + n % 10) × (48 + n % 10 ≤ 57)
-last_digit n = (omega arith, omega arith)
+inside-plain : (s : List ℕ) → IsPlain s → inside s ≡ s ++ 34 ∷ []
+inside-plain [] plain = refl
+inside-plain (x ∷ s) plain = inside-cons x s plain.0 plain.1 ∙ ap (λ (rest : List ℕ). x ∷ rest) (inside-plain s plain.2)
+
+plain_text : (s : List ℕ) → IsPlain s → NeedsNoEscape s
+plain_text s plain = ap (λ (rest : List ℕ). 34 ∷ rest) (inside-plain s plain)
+
+IsPlain-append : (s t : List ℕ) → IsPlain s → IsPlain t → IsPlain (s ++ t)
+IsPlain-append [] t ps pt = pt
+IsPlain-append (x ∷ s) t ps pt = (ps.0, ps.1, IsPlain-append s t ps.2 pt)
 
 glyph : (n : ℕ) → digit_glyph false (n % 10) ≡ 48 + n % 10
 glyph n = grind arith
 
-Plain-glyph : (n : ℕ) (s : List ℕ) → Plain s → Plain (digit_glyph false (n % 10) ∷ s)
-Plain-glyph n s ps =
-    let P : ℕ → Type 0 = λ x. Plain (x ∷ s) in
-    rw (glyph n) (Plain-cons (48 + n % 10) s (last_digit n).0 (last_digit n).1 ps)
+low_digit : (n : ℕ) → 35 ≤ 48 + n % 10
+low_digit n = omega arith
 
-Plain-if : (b : Bool) (s t : List ℕ) → Plain s → Plain t → Plain (cond b s t)
-Plain-if true s t ps pt = ps
-Plain-if false s t ps pt = pt
+high_digit : (n : ℕ) → 48 + n % 10 ≤ 91
+high_digit n = omega arith
 
-Plain-digits_onto : (k n : ℕ) (s : List ℕ) → Plain s → Plain (digits_onto k 10 false n s)
-Plain-digits_onto zero n s ps = ps
-Plain-digits_onto (suc k) n s ps =
-    let one = Plain-glyph n s ps in
-    Plain-if (n / 10 == 0) (digit_glyph false (n % 10) ∷ s) (digits_onto k 10 false (n / 10) (digit_glyph false (n % 10) ∷ s)) one (Plain-digits_onto k (n / 10) (digit_glyph false (n % 10) ∷ s) one)
+IsPlain-glyph : (n : ℕ) (s : List ℕ) → IsPlain s → IsPlain (digit_glyph false (n % 10) ∷ s)
+IsPlain-glyph n s ps =
+    let P : ℕ → Type 0 = λ x. IsPlain (x ∷ s) in
+    subst P (sym (glyph n)) (low_digit n, high_digit n, ps)
 
-Plain-decimal : (n : ℕ) → Plain (decimal n)
+IsPlain-cond : (b : Bool) (s t : List ℕ) → IsPlain s → IsPlain t → IsPlain (cond b s t)
+IsPlain-cond true s t ps pt = ps
+IsPlain-cond false s t ps pt = pt
+
+IsPlain-digits_onto : (k n : ℕ) (s : List ℕ) → IsPlain s → IsPlain (digits_onto k 10 false n s)
+IsPlain-digits_onto zero n s ps = ps
+IsPlain-digits_onto (suc k) n s ps =
+    let one = IsPlain-glyph n s ps in
+    IsPlain-cond (n / 10 == 0) (digit_glyph false (n % 10) ∷ s) (digits_onto k 10 false (n / 10) (digit_glyph false (n % 10) ∷ s)) one (IsPlain-digits_onto k (n / 10) (digit_glyph false (n % 10) ∷ s) one)
+
+IsPlain-decimal : (n : ℕ) → IsPlain (decimal n)
 unfolding digits
-Plain-decimal n = Plain-digits_onto 64 n [] refl
+IsPlain-decimal n = IsPlain-digits_onto 64 n [] tt
 
-Plain-last_digits : (k n : ℕ) → Plain (last_digits k n)
-Plain-last_digits zero n = refl
-Plain-last_digits (suc k) n =
-    Plain-append (last_digits k (n / 10)) ((48 + n % 10) ∷ []) (Plain-last_digits k (n / 10))
-    (Plain-cons (48 + n % 10) [] (last_digit n).0 (last_digit n).1 refl)
+IsPlain-last_digits : (k n : ℕ) → IsPlain (last_digits k n)
+IsPlain-last_digits zero n = tt
+IsPlain-last_digits (suc k) n = IsPlain-append (last_digits k (n / 10)) ((48 + n % 10) ∷ []) (IsPlain-last_digits k (n / 10)) (low_digit n, high_digit n, tt)
 
-Plain-minus_sign : (z : ℤ) → Plain (minus_sign z)
-unfolding serde_json_on_literals
-Plain-minus_sign (pos n) = refl
-Plain-minus_sign (negsuc n) = refl
+IsPlain-minus_sign : (z : ℤ) → IsPlain (minus_sign z)
+IsPlain-minus_sign (pos n) = tt
+IsPlain-minus_sign (negsuc n) = (omega arith, omega arith, tt)
 
-Plain-point : Plain (codes ".")
-unfolding serde_json_on_literals
-Plain-point = refl
-
-Plain-fix_text : (scale : ℕ) (z : ℤ) → Plain (fix_text scale z)
+IsPlain-fix_text : (scale : ℕ) (z : ℤ) → IsPlain (fix_text scale z)
 unfolding fix_text
-Plain-fix_text scale z =
+IsPlain-fix_text scale z =
     let whole = decimal (unsigned_abs z / 10 ^ scale) in
-    Plain-append (minus_sign z ++ whole ++ codes ".") (last_digits scale (unsigned_abs z))
-    (Plain-append (minus_sign z ++ whole) (codes ".")
-    (Plain-append (minus_sign z) whole (Plain-minus_sign z) (Plain-decimal (unsigned_abs z / 10 ^ scale))) Plain-point)
-    (Plain-last_digits scale (unsigned_abs z))
+    IsPlain-append (minus_sign z ++ whole ++ codes ".") (last_digits scale (unsigned_abs z))
+    (IsPlain-append (minus_sign z ++ whole) (codes ".")
+    (IsPlain-append (minus_sign z) whole (IsPlain-minus_sign z) (IsPlain-decimal (unsigned_abs z / 10 ^ scale))) (omega arith, omega arith, tt))
+    (IsPlain-last_digits scale (unsigned_abs z))
 
-quoted_plain : (s : List ℕ) → Plain s → quoted s ≡ rows.quoted s
-quoted_plain s ps = ap (λ (t : List ℕ). 34 ∷ (t ++ 34 ∷ [])) ps
+fix_quoted : (scale : ℕ) (z : ℤ) → NeedsNoEscape (fix_text scale z)
+fix_quoted scale z = plain_text (fix_text scale z) (IsPlain-fix_text scale z)
 
 -- ---- the parts of a row
 span_text : (scale : ℕ) (a : Ends) → compact_text (span_data scale a) ≡ rows.span_json scale a
 span_text scale a =
     array_text (item (string (fix_text scale a.lo)) (item (string (fix_text scale a.hi)) no_items))
-    ∙ ap₂ (λ (lo hi : List ℕ). rows.array (lo ∷ hi ∷ [])) (quoted_plain (fix_text scale a.lo) (Plain-fix_text scale a.lo)) (quoted_plain (fix_text scale a.hi) (Plain-fix_text scale a.hi))
+    ∙ ap₂ (λ (lo hi : List ℕ). rows.array (lo ∷ hi ∷ [])) (fix_quoted scale a.lo) (fix_quoted scale a.hi)
 
 -- a pair whose key needs no escape
-pair_text : (k : List ℕ) (d : Data) (v : List ℕ) → Plain k → compact_text d ≡ v → quoted k ++ 58 ∷ compact_text d ≡ rows.pair k v
+pair_text : (k : List ℕ) (d : Data) (v : List ℕ) → NeedsNoEscape k → compact_text d ≡ v → compact_text (string k) ++ 58 ∷ compact_text d ≡ rows.pair k v
 pair_text k d v pk e =
-    ap₂ (λ (a b : List ℕ). a ++ 58 ∷ b) (quoted_plain k pk) e
+    ap₂ (λ (a b : List ℕ). a ++ 58 ∷ b) pk e
     ∙ sym (append_assoc (rows.quoted k) (codes ":") v)
 
-span_pair : (k : List ℕ) (scale : ℕ) (a : Ends) → Plain k → quoted k ++ 58 ∷ compact_text (span_data scale a) ≡ rows.pair k (rows.span_json scale a)
+span_pair : (k : List ℕ) (scale : ℕ) (a : Ends) → NeedsNoEscape k → compact_text (string k) ++ 58 ∷ compact_text (span_data scale a) ≡ rows.pair k (rows.span_json scale a)
 span_pair k scale a pk = pair_text k (span_data scale a) (rows.span_json scale a) pk (span_text scale a)
 
-count_pair : (k : List ℕ) (n : ℕ) → Plain k → quoted k ++ 58 ∷ compact_text (count_data n) ≡ rows.pair k (decimal n)
+count_pair : (k : List ℕ) (n : ℕ) → NeedsNoEscape k → compact_text (string k) ++ 58 ∷ compact_text (count_data n) ≡ rows.pair k (decimal n)
 count_pair k n pk = pair_text k (count_data n) (decimal n) pk refl
 
-string_pair : (k s : List ℕ) → Plain k → Plain s → quoted k ++ 58 ∷ compact_text (string s) ≡ rows.pair k (rows.quoted s)
-string_pair k s pk ps = pair_text k (string s) (rows.quoted s) pk (quoted_plain s ps)
+string_pair : (k s : List ℕ) → NeedsNoEscape k → NeedsNoEscape s → compact_text (string k) ++ 58 ∷ compact_text (string s) ≡ rows.pair k (rows.quoted s)
+string_pair k s pk ps = pair_text k (string s) (rows.quoted s) pk ps
 
 cons : (a b : List ℕ) (xs ys : List (List ℕ)) → a ≡ b → xs ≡ ys → a ∷ xs ≡ b ∷ ys
 cons a b xs ys e es = ap₂ (λ (x : List ℕ) (l : List (List ℕ)). x ∷ l) e es
@@ -175,11 +192,11 @@ overlap_pairs scale (Undecided j rho rim2) rest =
 overlap_pairs scale Wide rest = refl
 overlap_pairs scale (Lost j why) rest = refl
 
-Plain-why_text : (why : Why) → Plain (why_text why)
+why_quoted : (why : Why) → NeedsNoEscape (why_text why)
 unfolding serde_json_on_literals
-Plain-why_text Root = refl
-Plain-why_text Zero = refl
-Plain-why_text Range = refl
+why_quoted Root = refl
+why_quoted Zero = refl
+why_quoted Range = refl
 
 why_pairs : (w : Word) (rest : Members) → pairs_of (why_then w rest) ≡ rows.why_pairs w ++ pairs_of rest
 unfolding serde_json_on_literals
@@ -189,17 +206,17 @@ why_pairs (Outside j) rest = refl
 why_pairs (Tir j) rest = refl
 why_pairs (Undecided j rho rim2) rest = refl
 why_pairs Wide rest = refl
-why_pairs (Lost j why) rest = cons _ _ _ _ (string_pair (codes "why") (why_text why) refl (Plain-why_text why)) refl
+why_pairs (Lost j why) rest = cons _ _ _ _ (string_pair (codes "why") (why_text why) refl (why_quoted why)) refl
 
-Plain-word_name : (w : Word) → Plain (word_name w)
+word_quoted : (w : Word) → NeedsNoEscape (word_name w)
 unfolding serde_json_on_literals
-Plain-word_name Passes = refl
-Plain-word_name (Vignetted j) = refl
-Plain-word_name (Outside j) = refl
-Plain-word_name (Tir j) = refl
-Plain-word_name (Undecided j rho rim2) = refl
-Plain-word_name Wide = refl
-Plain-word_name (Lost j why) = refl
+word_quoted Passes = refl
+word_quoted (Vignetted j) = refl
+word_quoted (Outside j) = refl
+word_quoted (Tir j) = refl
+word_quoted (Undecided j rho rim2) = refl
+word_quoted Wide = refl
+word_quoted (Lost j why) = refl
 
 -- ---- a row
 regroup : (a b c : List (List ℕ)) (x y z w : List ℕ) → a ++ x ∷ (b ++ y ∷ z ∷ (c ++ w ∷ [])) ≡ a ++ x ∷ b ++ y ∷ z ∷ c ++ w ∷ []
@@ -215,7 +232,7 @@ end_pairs : (w : Word) → pairs_of (why_then w (member (codes "word") (string (
 unfolding serde_json_on_literals
 end_pairs w =
     why_pairs w (member (codes "word") (string (word_name w)) no_members)
-    ∙ ap (λ (p : List ℕ). rows.why_pairs w ++ p ∷ []) (string_pair (codes "word") (word_name w) refl (Plain-word_name w))
+    ∙ ap (λ (p : List ℕ). rows.why_pairs w ++ p ∷ []) (string_pair (codes "word") (word_name w) refl (word_quoted w))
 
 scale_pairs : (scale : ℕ) (places : List Place) (rest : Members) (pairs : List (List ℕ)) → pairs_of rest ≡ pairs
     → pairs_of (member (codes "scale") (count_data scale) (member (codes "surfaces") (array (places_data scale places)) rest))

@@ -1,5 +1,5 @@
 -- The row of a ray as data of JSON: its members in the order of their keys, its intervals as texts.
-use Rattle.std.specs.Prelude.{ℕ, List, [], ◌∷◌, codes, Option, Some, None}
+use Rattle.std.specs.Prelude.{ℕ, List, [], ◌∷◌, codes, map, Option, Some, None}
 use Rattle.fixdec.specs.DecimalText.{fix_text}
 use Rattle.fixdec.specs.Ends.{Ends}
 use Rattle.lensmodel.specs.Texts.Pieces.{why_text}
@@ -10,6 +10,7 @@ use Rattle.lensmodel.specs.declared.row.Row.{Row}
 use Rattle.lensmodel.specs.declared.row.Word.{Word}
 use Rattle.lensmodel.specs.declared.row.Word.TheVariants.{Passes, Vignetted, Outside, Tir, Undecided, Wide, Lost}
 use Rattle.serde_json.specs.Data.{Data, string, number, unsigned, array, object, Items, item, no_items, Members, member, no_members}
+use Rattle.serde_json.specs.View.{items_of}
 
 abbrev pub count_data : ℕ → Data
 count_data n = number (unsigned n)
@@ -34,8 +35,7 @@ place_data scale p =
     (member (codes "y") (span_data scale p.y) (member (codes "z") (span_data scale p.z) no_members))))))
 
 abbrev pub places_data : ℕ → List Place → Items
-places_data scale [] = no_items
-places_data scale (p ∷ more) = item (place_data scale p) (places_data scale more)
+places_data scale places = items_of (map (place_data scale) places)
 
 -- ---- a word, and a row
 -- the surface that a word names
