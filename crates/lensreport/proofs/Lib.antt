@@ -1,3 +1,5 @@
 mod Aspheres
+mod JsonObjects
+mod JsonTexts
 mod Spots
 mod Totals

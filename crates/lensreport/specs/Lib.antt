@@ -1,3 +1,4 @@
+pub mod JsonData
 pub mod Spots
 pub mod Totals
 pub mod UnusedTags

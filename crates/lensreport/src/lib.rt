@@ -1,9 +1,12 @@
-//! The lines of printed texts, each into a buffer of its own and without memory.
+//! The lines of printed texts, each into a buffer of its own and without memory; the JSON line alone takes memory.
 #![tactic(auto)]
 
 pub mod faults;
 pub mod glass;
 pub mod index;
+pub mod json;
+#[cfg(test)]
+mod json_tests;
 pub mod lens;
 pub mod pieces;
 pub mod rows;
