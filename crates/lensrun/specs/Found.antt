@@ -19,7 +19,7 @@ IsFound held name found = IfSome held (λ files. files name ≡ found)
 -- what is due where a file gave nothing to go on with: nothing for want of memory, the line of a failed read, or the answer over
 -- what the name has, whatever would follow
 abbrev pub Stops : {G : Type 0} → Option Files → FileKind → List ℕ → (Option (List ℕ) → G → Answer) → Due → Type 0
-Stops held kind name over due =
+Stops {G} held kind name over due =
     (due ≡ Nothing) ⊎ (due_answer due ≡ answer ReadFault (read_fault_line kind))
     ⊎ ((found : Option (List ℕ)) × IsFound held name found × ((go_on : G) → due_answer due ≡ over found go_on))
 
