@@ -1,7 +1,7 @@
 -- The sample lenses are well formed.
 use Rattle.std.proofs.Common.{◌≡◌, ℕ, zero, suc, refl, arith}
 use Rattle.std.proofs.lemmas.Int.{ints}
-use Rattle.std.specs.Prelude.{◌<◌, slice_index_or, not, IsTrue, All, Option, Some, None, ℤ, pos, negsuc}
+use Rattle.std.specs.Prelude.{◌<◌, slice_index_or, not, Bool, true, false, IsTrue, All, Option, Some, None, ℤ, pos, negsuc}
 use Rattle.fixdec.specs.Decimal.{Decimal}
 use Rattle.fixdec.specs.Frac.{whole, ◌*Q◌}
 use Rattle.fixdec.specs.Interval.{ends, iv_widen}
@@ -12,7 +12,7 @@ use Rattle.lensmodel.specs.Equations.Dispersion.{IsKnown}
 use Rattle.lensmodel.specs.Setup.Media.{has_tolerance}
 use Rattle.lensmodel.specs.Setup.Ranges.{has_place, is_not_negative, is_width}
 use Rattle.lensmodel.specs.Setup.Values.{plane, zero_decimal, reflects}
-use Rattle.lensmodel.specs.Setup.WellFormed.{IsWellFormed, IsWritten, IsWrittenSurface, HasMedia, HasBox, HasGoodIndex}
+use Rattle.lensmodel.specs.Setup.WellFormed.{IsWellFormed, IsWritten, IsWrittenIf, IsWrittenSurface, HasMedia, HasBox, HasGoodIndex}
 use Rattle.lensmodel.specs.Setup.WholeFaults.{whole_fault}
 use Rattle.lensmodel.specs.declared.glass.Medium.TheVariants.{Air}
 use Rattle.lensmodel.specs.declared.surface.Surface.{Surface}
@@ -31,12 +31,13 @@ tenth m = record { low = omega (arith, ints); high = omega (arith, ints) }
 ones : (m : ℤ) → IsWritten (decimal m (pos 0))
 ones m = record { low = omega (arith, ints); high = omega (arith, ints) }
 
-flat_written : (thick : ℤ) → IsWrittenSurface (flat thick)
-flat_written thick = record {
-  curv = zero_written;
+like_plane : (curv : Decimal) (thick semi : Option Decimal) (rim : Bool) → IsWritten curv → IsWrittenIf thick → IsWrittenIf semi
+    → IsWrittenSurface (record plane { curv = curv; thick = thick; semi = semi; rim = rim })
+like_plane curv thick semi rim c t s = record {
+  curv = c;
   conic = zero_written;
-  thick = ones thick;
-  semi = tt;
+  thick = t;
+  semi = s;
   a1 = zero_written;
   a2 = zero_written;
   a3 = zero_written;
@@ -47,14 +48,17 @@ flat_written thick = record {
   a8 = zero_written;
 }
 
+flat_written : (thick : ℤ) → IsWrittenSurface (flat thick)
+flat_written thick = like_plane zero_decimal (Some (decimal thick (pos 0))) None false zero_written (ones thick) tt
+
 sphere_written : IsWrittenSurface sphere
-sphere_written = record (flat_written (pos 10)) { curv = tenth (pos 1) }
+sphere_written = like_plane (decimal (pos 1) (negsuc 0)) (Some (decimal (pos 10) (pos 0))) None false (tenth (pos 1)) (ones (pos 10)) tt
 
 rimmed_written : IsWrittenSurface rimmed
-rimmed_written = record (flat_written (pos 4)) { semi = ones (pos 5) }
+rimmed_written = like_plane zero_decimal (Some (decimal (pos 4) (pos 0))) (Some (decimal (pos 5) (pos 0))) true zero_written (ones (pos 4)) (ones (pos 5))
 
 object_written : IsWrittenSurface (record plane { thick = None })
-object_written = record (flat_written (pos 0)) { thick = tt }
+object_written = like_plane zero_decimal None None false zero_written tt tt
 
 -- ---- boxes
 no_box : (f : Surface) (width : Decimal) → HasBox (sample f width None)

@@ -1,16 +1,15 @@
 //! The row of one ray, without memory.
 
-ghost use Rattle.std.specs.Prelude.{◌≡◌, ◌≤◌};
+ghost use Rattle.std.specs.Prelude.{◌≡◌};
 ghost use Rattle.fixdec.specs.Form.{linear_operations};
 ghost use Rattle.fixdec.specs.IntervalOperations.{operations};
+ghost use Rattle.ladder.specs.Climbs.{climb_by};
 ghost use Rattle.lensmodel.specs.Claims.RowClaims.{RowHolds};
-ghost use Rattle.lensmodel.specs.Rows.Outcome.{outcome_at};
 ghost use Rattle.lensmodel.specs.Rows.Ray as ray;
 ghost use Rattle.lensmodel.specs.Setup.WellFormed.{IsWellFormed};
 
-use crate::kept::{is_definite, keep, last};
+use crate::kept::{last, rung};
 use crate::scale::at_scale;
-use enclose::arith::Arith;
 use enclose::iv::Iv;
 use forms::form::Form;
 use lensmodel::launch::Launch;
@@ -20,58 +19,35 @@ use sagform::steps::Steps;
 use skewtrace::trace::trace;
 use std::sync::ledger::Ledger;
 
-/// The outcome of a ray at one scale as a row.
-fn outcome<T: Arith, L: Ledger>(s: &Setup, q: &Launch, steps: &mut Steps<L>) -> Row
-    requires scale { T.SCALE ≤ 15 }
-    requires well { IsWellFormed s.now }
-    ensures exact { result ≡ ray.as_row (outcome_at T.ops T.SCALE s.now q.now) }
-    ensures encloses { RowHolds s.now q.now result }
-{
-    let (word, places) = trace::<T, L>(s, q, steps);
-    Row {
-        scale: T::SCALE,
-        word,
-        places,
-    }
-}
-
 /// The row of a ray in intervals.
 fn by_intervals<L: Ledger>(s: &Setup, q: &Launch, steps: &mut Steps<L>) -> Row
     requires { IsWellFormed s.now }
-    ensures exact { result ≡ ray.row_by operations s.now q.now }
+    ensures exact { result ≡ climb_by operations s.now q.now }
     ensures encloses { RowHolds s.now q.now result }
 {
     let mut kept = None;
-    macro_rules! rung {
+    macro_rules! climb {
         ($scale:literal, $at:ident) => {
-            let $at = outcome::<Iv<$scale>, L>(s, q, steps);
-            if is_definite(&$at.word) {
-                return $at;
-            }
-            keep(&mut kept, $at);
+            rung!(kept, $scale, trace::<Iv<$scale>, L>(s, q, steps));
         };
     }
-    at_scale!(rung);
+    at_scale!(climb);
     last(kept)
 }
 
 /// The row of a ray in linear forms.
 fn by_forms<L: Ledger>(s: &Setup, q: &Launch, steps: &mut Steps<L>) -> Row
     requires { IsWellFormed s.now }
-    ensures exact { result ≡ ray.row_by linear_operations s.now q.now }
+    ensures exact { result ≡ climb_by linear_operations s.now q.now }
     ensures encloses { RowHolds s.now q.now result }
 {
     let mut kept = None;
-    macro_rules! rung {
+    macro_rules! climb {
         ($scale:literal, $at:ident) => {
-            let $at = outcome::<Form<$scale>, L>(s, q, steps);
-            if is_definite(&$at.word) {
-                return $at;
-            }
-            keep(&mut kept, $at);
+            rung!(kept, $scale, trace::<Form<$scale>, L>(s, q, steps));
         };
     }
-    at_scale!(rung);
+    at_scale!(climb);
     last(kept)
 }
 

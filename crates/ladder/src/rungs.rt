@@ -1,15 +1,15 @@
 //! Surfaces prepared at the four scales, in one kind of arithmetic.
 
 ghost use Rattle.std.specs.Prelude.{◌≡◌, ◌+◌, ◌*◌, ◌≤◌, IfOk};
+ghost use Rattle.ladder.specs.Climbs.{climb};
 ghost use Rattle.ladder.specs.Room.{HasRoom};
 ghost use Rattle.lensmodel.specs.Claims.RowClaims.{RowHolds};
-ghost use Rattle.lensmodel.specs.Rows.Outcome.{outcome_at, row_of};
-ghost use Rattle.lensmodel.specs.Rows.Ray.{as_row};
+ghost use Rattle.lensmodel.specs.Rows.Outcome.{outcome_at};
 ghost use Rattle.lensmodel.specs.Setup.Values as values;
 ghost use Rattle.lensmodel.specs.Setup.WellFormed.{IsWellFormed};
 ghost use Rattle.skewtrace.specs.Filled.{all_faces};
 
-use crate::kept::{is_definite, keep, last};
+use crate::kept::{last, rung};
 use crate::scale::at_scale;
 use enclose::arith::Arith;
 use lensmodel::launch::Launch;
@@ -27,22 +27,6 @@ pub(crate) struct Rungs<A: Arith, B: Arith, C: Arith, D: Arith> {
     pub(crate) nine: Prepared<B>,
     pub(crate) twelve: Prepared<C>,
     pub(crate) fifteen: Prepared<D>,
-}
-
-/// The outcome of a ray at one scale as a row, over surfaces that were prepared for the lens.
-fn outcome<T: Arith>(faces: &Prepared<T>, s: &Setup, q: &Launch) -> Row
-    requires scale { T.SCALE ≤ 15 }
-    requires well { IsWellFormed s.now }
-    requires filled { faces.now.list ≡ all_faces T.ops T.SCALE s.now }
-    ensures exact { result ≡ as_row (outcome_at T.ops T.SCALE s.now q.now) }
-    ensures encloses { RowHolds s.now q.now result }
-{
-    let (word, places) = faces.trace(s, q);
-    Row {
-        scale: T::SCALE,
-        word,
-        places,
-    }
 }
 
 impl<A: Arith, B: Arith, C: Arith, D: Arith> Rungs<A, B, C, D> {
@@ -83,31 +67,27 @@ impl<A: Arith, B: Arith, C: Arith, D: Arith> Rungs<A, B, C, D> {
 
     /// The row of a ray, over surfaces that were prepared for the lens.
     pub(crate) fn row(&self, s: &Setup, q: &Launch) -> Row
-        requires six { A.SCALE ≤ 15 }
-        requires nine { B.SCALE ≤ 15 }
-        requires twelve { C.SCALE ≤ 15 }
-        requires fifteen { D.SCALE ≤ 15 }
+        requires six { A.SCALE ≡ 6 }
+        requires nine { B.SCALE ≡ 9 }
+        requires twelve { C.SCALE ≡ 12 }
+        requires fifteen { D.SCALE ≡ 15 }
         requires well { IsWellFormed s.now }
         requires filled_six { self.now.six.list ≡ all_faces A.ops A.SCALE s.now }
         requires filled_nine { self.now.nine.list ≡ all_faces B.ops B.SCALE s.now }
         requires filled_twelve { self.now.twelve.list ≡ all_faces C.ops C.SCALE s.now }
         requires filled_fifteen { self.now.fifteen.list ≡ all_faces D.ops D.SCALE s.now }
-        ensures exact { result ≡ as_row (row_of
+        ensures exact { result ≡ climb
             (outcome_at A.ops A.SCALE s.now q.now) (outcome_at B.ops B.SCALE s.now q.now)
-            (outcome_at C.ops C.SCALE s.now q.now) (outcome_at D.ops D.SCALE s.now q.now)) }
+            (outcome_at C.ops C.SCALE s.now q.now) (outcome_at D.ops D.SCALE s.now q.now) }
         ensures encloses { RowHolds s.now q.now result }
     {
         let mut kept = None;
-        macro_rules! rung {
+        macro_rules! climb {
             ($scale:literal, $at:ident) => {
-                let $at = outcome(&self.$at, s, q);
-                if is_definite(&$at.word) {
-                    return $at;
-                }
-                keep(&mut kept, $at);
+                rung!(kept, $scale, self.$at.trace(s, q));
             };
         }
-        at_scale!(rung);
+        at_scale!(climb);
         last(kept)
     }
 }
