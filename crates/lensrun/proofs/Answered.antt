@@ -2,12 +2,13 @@
 use Rattle.std.proofs.Common.{◌≡◌, ◌≢◌, ◌⊎◌, ℕ, ◌≤◌, List, [], ◌∷◌, length, inl, inr, Option, Some, None, Result, Ok, Err, refl, sym, ap, subst, ◌∙◌, arith}
 use Rattle.std.specs.Prelude.{Any}
 use Rattle.lensio.specs.Held.{Files}
-use Rattle.lensmodel.specs.Call.Answer.{Contents, Answer, answer, on_file, on_read}
+use Rattle.lensmodel.specs.Call.Answer.{Contents, Answer, answer, on_checked}
 use Rattle.lensmodel.specs.Call.Inputs.{Inputs, inputs_named, on_inputs}
 use Rattle.lensmodel.specs.Call.TopCall.{Command, answer_of, command_answer, files_of, index, glass, read, trace, trace_json, first, seidel}
 use Rattle.lensmodel.specs.Call.Trace.{trace_text}
 use Rattle.lensmodel.specs.Setup.WellFormed.{IsWellFormed, IsInRange}
 use Rattle.lensmodel.specs.Texts.FaultText.{absent_line, usage_line}
+use Rattle.lensmodel.specs.declared.fault.CrossFault.{CrossFault}
 use Rattle.lensmodel.specs.declared.job.Job.{Job}
 use Rattle.lensmodel.specs.declared.setup.Setup.{Setup}
 use Rattle.lensmodel.specs.declared.status.FileKind.{FileKind}
@@ -69,6 +70,28 @@ usage_due held due is = plain_due held None due (subst (λ (x : Answer). IsPlain
     answered None = (λ _ _. None, record { answer = is; rests = no_trace-if due (λ e. cc (sym e ∙ ap (λ (x : Answer). x.status) is)) })
     answered (Some files) = record { answer = is; rests = no_trace-if due (λ e. cc (sym e ∙ ap (λ (x : Answer). x.status) is)) }
 
+pub ready-no_report : (due : Due) → (due_answer due).status ≢ Done → IsReady due
+ready-no_report due h = ready-if due (no_trace-if due h)
+
+pub ready-none : {V F : Type 0} (held : Option Files) (file : FileKind) (name : List ℕ) (cause : F → List ℕ) (reading : List ℕ → Result V F) (due : Due)
+    → GivesNone held file name cause reading due → IsReady due
+ready-none held file name cause reading due none = ready-no_report due (no_report held file name cause reading due none)
+
+-- for want of memory
+pub nothing_due : (held : Option Files) (c : Option Command) → IsDueOf held c Nothing
+nothing_due held c = record {
+  outcome = λ decided. absurd decided;
+  read_fault = λ e. cc;
+  no_write = λ e. cc;
+  nothing = λ e. refl;
+}
+
+-- a cross check ends in a refusal, or in what follows it
+pub checked-ends : {V : Type 0} (r : Result V CrossFault) (text : V → List ℕ)
+    → ((on_checked r (λ v. answer Done (text v))).status ≡ Done) ⊎ ((on_checked r (λ v. answer Done (text v))).status ≡ Refused)
+checked-ends (Ok v) text = inl refl
+checked-ends (Err fault) text = inr refl
+
 -- ---- a command over one file
 module _ {V F : Type 0} (held : Option Files) (c : Command) (file : FileKind) (name : List ℕ) (cause : F → List ℕ) (reading : List ℕ → Result V F)
     (go_on : V → Answer)
@@ -106,10 +129,10 @@ module _ {V F : Type 0} (held : Option Files) (c : Command) (file : FileKind) (n
         let h = stopped held file name cause reading due none decided in
         OfFiles-map held (λ files. files file name ≡ h.0) (λ files. IsAnswered files (Some c) due)
         (λ files e. record {
-          answer = h.1.1 go_on ∙ sym (over files ∙ ap (λ (f : Option (List ℕ)). over_file held file name cause reading f go_on) e);
+          answer = h.2 go_on ∙ sym (over files ∙ ap (λ (f : Option (List ℕ)). over_file held file name cause reading f go_on) e);
           rests = rests files due (no_trace-if due (no_report held file name cause reading due none));
         })
-        (having held h.0 h.1.0);
+        (having held h.0 h.1);
     read_fault = λ e.
         rw named (0, (file, name), omega arith, refl, record {
           line = fault_line held file name cause reading due none e;
@@ -149,7 +172,7 @@ module _ (held : Option Files) (i : Inputs) where
           rests = λ done. absurd (none.no_report done);
         })
         (none.outcome decided);
-    read_fault = λ e. let a = none.read_fault e in (a.0, a.1.0, a.1.1.0, a.1.1.1.0, fault_of (due_answer due).text a.1.0 a.1.1.1.1);
+    read_fault = λ e. let a = none.read_fault e in (a.0, a.1, a.2, a.3, fault_of (due_answer due).text a.1 a.4);
     no_write = none.no_write;
     nothing = none.nothing;
   }

@@ -1,5 +1,5 @@
 -- What a shelf counts while files are taken one after another.
-use Rattle.std.proofs.Common.{◌≡◌, ◌≢◌, ℕ, ◌+◌, ◌*◌, ◌≤◌, List, [], ◌∷◌, ◌++◌, length, take, Option, Some, None, refl, sym, ap, subst, ◌∙◌, append-nil, arith}
+use Rattle.std.proofs.Common.{◌≡◌, ◌≢◌, ℕ, suc, ◌+◌, ◌*◌, ◌≤◌, List, [], ◌∷◌, ◌++◌, length, take, Option, Some, None, refl, sym, ap, subst, ◌∙◌, append-nil, arith}
 use Rattle.lensio.specs.Count.{Rose, RoseBy}
 use Rattle.lensio.specs.Taken.{Takes, TakesFront}
 use Rattle.lensio.specs.TakenLaws.{Takes-nil, Takes-trans, TakesFront-whole, TakesFront-after}
@@ -7,7 +7,7 @@ use Rattle.lensmodel.specs.declared.status.Status.{Status}
 use Rattle.lensmodel.specs.declared.status.Status.TheVariants.{Absent, ReadFault, TooLong, Memory}
 use Rattle.lensrun.specs.Found.{IsCounted}
 
-some-none : {A : Type 0} (a : A) → None ≢ Some a
+pub some-none : {A : Type 0} (a : A) → None ≢ Some a
 some-none a e = cc
 
 rose-from : (n a b c : ℕ) → a ≤ b → RoseBy n b c → RoseBy n a c
@@ -42,6 +42,12 @@ module _ (end : Option Status) (n m f f' a a' g g' : ℕ) where
     within = λ e. let w = h.within e in omega (arith, l, w);
     given_rises = h.given_rises;
   }
+
+-- one file that was taken, and then others
+pub counted-next : (end : Option Status) (m f f' f'' a a' a'' g g' g'' : ℕ) → IsCounted None 1 f f' a a' g g' → IsCounted end m f' f'' a' a'' g' g''
+    → IsCounted end (suc m) f f'' a a'' g g''
+counted-next end m f f' f'' a a' a'' g g' g'' h k =
+    counted-most end (1 + m) (suc m) f f'' a a'' g g'' (omega arith) (counted-then end 1 m f f' f'' a a' a'' g g' g'' h k)
 
 -- the end of a call to which nothing more is taken
 pub counted-end : (end : Option Status) (n f f' a a' g g' : ℕ) → end ≢ Some Absent → end ≢ Some ReadFault → end ≢ Some TooLong

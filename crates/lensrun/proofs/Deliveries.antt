@@ -69,7 +69,7 @@ module _ (held : Option Files) (said : List (List ℕ)) (due : Due) (ended : Sta
     unfolding WritesFront
     front_if_delivered failed = elim d [
         | inl done ↦ absurd (h.no_write (sym done.0 ∙ failed))
-        | inr front ↦ front_by (due_answer due).status refl (λ e. cc (sym failed ∙ silent (h.nothing e))) front.1.1
+        | inr front ↦ front_by (due_answer due).status refl (λ e. cc (sym failed ∙ silent (h.nothing e))) front.2
       ]
 
   -- the line of a failed read
@@ -111,7 +111,7 @@ module _ (held : Option Files) (said : List (List ℕ)) (due : Due) (ended : Sta
     prepares_by t e files (Some (seidel i)) a = absurd (subst IsNoTrace e a.rests)
     prepares_by t e files (Some (trace i)) a =
         let r = a.rests (ap (λ (y : Due). (due_answer y).status) e) in
-        (r.0.setup, r.0.job, r.1.1, risen ∙ ap (λ y. steps + preparations y) r.1.0)
+        (r.0.setup, r.0.job, r.2, risen ∙ ap (λ y. steps + preparations y) r.1)
 
     pub prepares : Prepares held said steps steps'
     prepares = by due refl
@@ -171,7 +171,7 @@ module _ (held : Option Files) (said : List (List ℕ)) (due : Due) (ended : Sta
   complete_by : (files : Files) → held ≡ Some files → ¬ Rose f f' → ¬ Rose before now → (outcome (by_name files) said).status ≡ Done
       → (s : Status) → (due_answer due).status ≡ s → (ended ≡ Done) ⊎ (ended ≡ Memory)
   complete_by files told calm sound done s e = elim d [
-      | inr failed ↦ absurd (sound failed.1.0)
+      | inr failed ↦ absurd (sound failed.1)
       | inl ends ↦ by s e
     ]
     where
@@ -181,7 +181,7 @@ module _ (held : Option Files) (said : List (List ℕ)) (due : Due) (ended : Sta
           ap (λ (x : Answer). x.status) (a.answer ∙ outcome-is (by_name files) said) ∙ done
 
       sound-end : ended ≡ (due_answer due).status
-      sound-end = elim d [ | inl ends ↦ ends.0 | inr failed ↦ absurd (sound failed.1.0) ]
+      sound-end = elim d [ | inl ends ↦ ends.0 | inr failed ↦ absurd (sound failed.1) ]
 
       by : (s : Status) → (due_answer due).status ≡ s → (ended ≡ Done) ⊎ (ended ≡ Memory)
       by Done e = inl (sound-end ∙ e)

@@ -1,6 +1,6 @@
 -- What the files of a trace make, from what the shelf gave of each.
-use Rattle.std.proofs.Common.{◌≡◌, ◌≢◌, ◌⊎◌, ℕ, ◌≤◌, List, [], ◌∷◌, length, inl, inr, Option, Some, None, Result, Ok, Err, refl, sym, ap, subst, ◌∙◌, arith}
-use Rattle.std.specs.Prelude.{Any}
+use Rattle.std.proofs.Common.{◌≡◌, ◌≢◌, ◌⊎◌, ℕ, suc, ◌<◌, ◌≤◌, List, [], ◌∷◌, length, inl, inr, Option, Some, None, Result, Ok, Err, refl, sym, ap, subst, ◌∙◌, arith}
+use Rattle.std.specs.Prelude.{Any, slice_index_or}
 use Rattle.std.proofs.lemmas.Bool.{le-ltb}
 use Rattle.lensio.specs.Held.{Files}
 use Rattle.lensmodel.specs.Call.Answer.{Contents, Answer, answer, on_file, on_read, on_checked}
@@ -139,7 +139,7 @@ module _ {V F : Type 0} (held : Option Files) (i : Inputs) (file : FileKind) (na
     outcome = λ decided.
         let h = stopped held file name cause reading due none decided in
         OfFiles-map held (ComesTo h.0) (λ files. (go_on : Setup → Job → Answer) → due_answer due ≡ on_inputs files i go_on)
-        (λ files r. λ go_on. h.1.1 (r go_on).0 ∙ sym (r go_on).1) (comes h.0 h.1.0);
+        (λ files r. λ go_on. h.2 (r go_on).0 ∙ sym (r go_on).1) (comes h.0 h.1);
     read_fault = λ is. at (due_answer due).text (record { line = fault_line held file name cause reading due none is; reached = missing });
     no_report = no_report held file name cause reading due none;
     no_write = no_write held file name cause reading due none;
@@ -173,12 +173,12 @@ module _ (held : Option Files) (i : Inputs) where
         let t = look-box held i.tol in
         makes_none held i Agf i.agf agf_cause catalogue due none
         (λ a ha.
-          of_found held i (Some lens.0) a (look held i.job) t.0 lens.1.0 ha (look-found held i.job) t.1
+          of_found held i (Some lens.0) a (look held i.job) t.0 lens.1 ha (look-found held i.job) t.1
           (ComesTo held i Agf i.agf agf_cause catalogue a)
-          (λ files h. λ go_on. (after_book files i read go_on, at_book files i (Some lens.0) held go_on h.zmx read lens.0 refl lens.1.1.0 lens.1.1.1 a h.agf)))
-        (of_found held i (Some lens.0) (look held i.agf) (look held i.job) t.0 lens.1.0 (look-found held i.agf) (look-found held i.job) t.1
+          (λ files h. λ go_on. (after_book files i read go_on, at_book files i (Some lens.0) held go_on h.zmx read lens.0 refl lens.2 lens.3 a h.agf)))
+        (of_found held i (Some lens.0) (look held i.agf) (look held i.job) t.0 lens.1 (look-found held i.agf) (look-found held i.job) t.1
           (λ files. (go_on : Setup → Job → Answer) → on_inputs (without Agf files) i go_on ≡ answer Absent (absent_line Agf))
-          (λ files h go_on. at_book (without Agf files) i (Some lens.0) held go_on h.zmx read lens.0 refl lens.1.1.0 lens.1.1.1 None refl))
+          (λ files h go_on. at_book (without Agf files) i (Some lens.0) held go_on h.zmx read lens.0 refl lens.2 lens.3 None refl))
         (λ text h. (1, (Agf, i.agf), omega arith, refl, h))
 
     module _ (book : List Glass) (glasses : Gives held Agf i.agf agf_cause catalogue book) where
@@ -188,15 +188,15 @@ module _ (held : Option Files) (i : Inputs) where
           let t = look-box held i.tol in
           makes_none held i kind.Job i.job job_cause job_in due none
           (λ j hj.
-            of_found held i (Some lens.0) (Some glasses.0) j t.0 lens.1.0 glasses.1.0 hj t.1
+            of_found held i (Some lens.0) (Some glasses.0) j t.0 lens.1 glasses.1 hj t.1
             (ComesTo held i kind.Job i.job job_cause job_in j)
             (λ files h. λ go_on. (after_job files i read book go_on,
-              at_job files i (Some lens.0) held go_on h.zmx read lens.0 refl lens.1.1.0 lens.1.1.1 (Some glasses.0) h.agf
-              book glasses.0 refl glasses.1.1.0 glasses.1.1.1 j h.job)))
-          (of_found held i (Some lens.0) (Some glasses.0) (look held i.job) t.0 lens.1.0 glasses.1.0 (look-found held i.job) t.1
+              at_job files i (Some lens.0) held go_on h.zmx read lens.0 refl lens.2 lens.3 (Some glasses.0) h.agf
+              book glasses.0 refl glasses.2 glasses.3 j h.job)))
+          (of_found held i (Some lens.0) (Some glasses.0) (look held i.job) t.0 lens.1 glasses.1 (look-found held i.job) t.1
             (λ files. (go_on : Setup → Job → Answer) → on_inputs (without kind.Job files) i go_on ≡ answer Absent (absent_line kind.Job))
-            (λ files h go_on. at_job (without kind.Job files) i (Some lens.0) held go_on h.zmx read lens.0 refl lens.1.1.0 lens.1.1.1 (Some glasses.0) h.agf
-              book glasses.0 refl glasses.1.1.0 glasses.1.1.1 None refl))
+            (λ files h go_on. at_job (without kind.Job files) i (Some lens.0) held go_on h.zmx read lens.0 refl lens.2 lens.3 (Some glasses.0) h.agf
+              book glasses.0 refl glasses.2 glasses.3 None refl))
           (λ text h. (2, (kind.Job, i.job), omega arith, refl, h))
 
       module _ (job : Job) (asked : Gives held kind.Job i.job job_cause job_in job) where
@@ -204,8 +204,8 @@ module _ (held : Option Files) (i : Inputs) where
         comes_to_box : (files : Contents) (t : Option (List ℕ)) → Finds files i (Some lens.0) (Some glasses.0) (Some asked.0) t → (go_on : Setup → Job → Answer)
             → on_inputs files i go_on ≡ on_box files (image_of read.lens) i.tol (after_box read book job go_on)
         comes_to_box files t h go_on =
-            at_box files i (Some lens.0) held go_on h.zmx read lens.0 refl lens.1.1.0 lens.1.1.1 (Some glasses.0) h.agf
-            book glasses.0 refl glasses.1.1.0 glasses.1.1.1 (Some asked.0) h.job job asked.0 refl asked.1.1.0 asked.1.1.1
+            at_box files i (Some lens.0) held go_on h.zmx read lens.0 refl lens.2 lens.3 (Some glasses.0) h.agf
+            book glasses.0 refl glasses.2 glasses.3 (Some asked.0) h.job job asked.0 refl asked.2 asked.3
 
         image : ℕ
         image = image_of read.lens
@@ -214,26 +214,35 @@ module _ (held : Option Files) (i : Inputs) where
             → on_box files image (Some name) go_on ≡ over_file held Tol name tol_cause (λ bytes. tolerance_box bytes image) t (λ box. go_on (Some box))
         box-at files name t go_on e = ap (λ (f : Option (List ℕ)). over_file held Tol name tol_cause (λ bytes. tolerance_box bytes image) f (λ box. go_on (Some box))) e
 
+        -- the box stands behind the other files
+        behind : (tol : Option (List ℕ)) (name : List ℕ) → tol ≡ Some name → (k : ℕ) × (k < length (box_named tol)) × (slice_index_or (box_named tol) k (Tol, name) ≡ (Tol, name))
+        behind None name e = absurd (cc e)
+        behind (Some n) name e = (0, omega arith, ap (λ m. (Tol, m)) (cc e))
+
+        any_box : (name : List ℕ) → i.tol ≡ Some name → (text : List ℕ) → IsInputFault held i Tol text
+            → Any (λ (f : FileKind × List ℕ). IsInputFault held i f.0 text) (inputs_named i)
+        any_box name e text h = let b = behind i.tol name e in (suc (suc (suc b.0)), (Tol, name), omega (arith, b.1), b.2, h)
+
         -- a box that isn't there
         no_box_by : (tol : Option (List ℕ)) → i.tol ≡ tol → (due : Due) → GivesNoBox held image tol due → MakesNone held i due
-        unfolding image ComesTo
+        unfolding image ComesTo IsFoundBox FindsBox
         no_box_by None e due none = absurd none
         no_box_by (Some name) e due none =
             makes_none held i Tol name tol_cause (λ bytes. tolerance_box bytes (image_of read.lens)) due none
             (λ t ht.
-              of_found held i (Some lens.0) (Some glasses.0) (Some asked.0) t lens.1.0 glasses.1.0 asked.1.0 (subst (λ n. IsFoundBox held n t) (sym e) ht)
+              of_found held i (Some lens.0) (Some glasses.0) (Some asked.0) t lens.1 glasses.1 asked.1 (subst (λ n. IsFoundBox held n t) (sym e) ht)
               (ComesTo held i Tol name tol_cause (λ bytes. tolerance_box bytes (image_of read.lens)) t)
               (λ files h. λ go_on. (λ box. after_box read book job go_on (Some box),
                 comes_to_box files t h go_on ∙ ap (λ n. on_box files (image_of read.lens) n (after_box read book job go_on)) e
                 ∙ box-at files name t (after_box read book job go_on) (subst (λ n. FindsBox files n t) e h.tol))))
-            (of_found held i (Some lens.0) (Some glasses.0) (Some asked.0) (look held name) lens.1.0 glasses.1.0 asked.1.0
+            (of_found held i (Some lens.0) (Some glasses.0) (Some asked.0) (look held name) lens.1 glasses.1 asked.1
               (subst (λ n. IsFoundBox held n (look held name)) (sym e) (look-found held name))
               (λ files. (go_on : Setup → Job → Answer) → on_inputs (without Tol files) i go_on ≡ answer Absent (absent_line Tol))
               (λ files h go_on.
-                at_box (without Tol files) i (Some lens.0) held go_on h.zmx read lens.0 refl lens.1.1.0 lens.1.1.1 (Some glasses.0) h.agf
-                book glasses.0 refl glasses.1.1.0 glasses.1.1.1 (Some asked.0) h.job job asked.0 refl asked.1.1.0 asked.1.1.1
+                at_box (without Tol files) i (Some lens.0) held go_on h.zmx read lens.0 refl lens.2 lens.3 (Some glasses.0) h.agf
+                book glasses.0 refl glasses.2 glasses.3 (Some asked.0) h.job job asked.0 refl asked.2 asked.3
                 ∙ ap (λ n. on_box (without Tol files) (image_of read.lens) n (after_box read book job go_on)) e))
-            (λ text h. rw e (3, (Tol, name), omega arith, refl, h))
+            (λ text h. any_box name e text h)
 
         pub no_box : (due : Due) → GivesNoBox held (image_of read.lens) i.tol due → MakesNone held i due
         unfolding image
@@ -254,7 +263,7 @@ module _ (held : Option Files) (i : Inputs) where
           goes_on = λ files f go_on. ap go_on (sym is);
           file = λ files f. is;
         }
-        has_box (Some name) toler (box, is, bytes, found, short, reads) = record {
+        has_box (Some name) toler (box, is, (bytes, found, short, reads)) = record {
           has = Some bytes;
           found = found;
           goes_on = λ files f go_on.
@@ -276,7 +285,7 @@ module _ (held : Option Files) (i : Inputs) where
 
           pub makes : (s : Setup) → joined read.lens book job toler ≡ Ok s → OfFiles held (λ files. MakesSetup files i s job)
           makes s is =
-              of_found held i (Some lens.0) (Some glasses.0) (Some asked.0) b.has lens.1.0 glasses.1.0 asked.1.0 b.found
+              of_found held i (Some lens.0) (Some glasses.0) (Some asked.0) b.has lens.1 glasses.1 asked.1 b.found
               (λ files. MakesSetup files i s job)
               (λ files h. record {
                 inputs = record {
@@ -289,9 +298,9 @@ module _ (held : Option Files) (i : Inputs) where
                   zmx = h.zmx;
                   agf = h.agf;
                   job_held = h.job;
-                  lens_read = lens.1.1.1;
-                  book_read = glasses.1.1.1;
-                  job_read = asked.1.1.1;
+                  lens_read = lens.3;
+                  book_read = glasses.3;
+                  job_read = asked.3;
                   box_read = b.file files h.tol;
                   setup = is;
                 };
@@ -302,7 +311,7 @@ module _ (held : Option Files) (i : Inputs) where
               → MakesNone held i due
           crosses fault due is refused = record {
             outcome = λ decided.
-                of_found held i (Some lens.0) (Some glasses.0) (Some asked.0) b.has lens.1.0 glasses.1.0 asked.1.0 b.found
+                of_found held i (Some lens.0) (Some glasses.0) (Some asked.0) b.has lens.1 glasses.1 asked.1 b.found
                 (λ files. (go_on : Setup → Job → Answer) → due_answer due ≡ on_inputs files i go_on)
                 (λ files h go_on. refused ∙ sym (comes_to_checks files h go_on ∙ ap (λ r. on_checked r (λ s. go_on s job)) is));
             read_fault = λ e. absurd (cc (sym e ∙ ap (λ (x : Answer). x.status) refused));

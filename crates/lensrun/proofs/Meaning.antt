@@ -91,12 +91,12 @@ module _ (files : Contents) (i : Inputs) (due : Due) where
       let ended : (due_answer due).status ≡ Done = ap (λ (x : Answer). x.status) a.answer ∙ done in
       let r = a.rests ended in
       let t = r.0 in
-      let h : TracingHolds t = subst DueHolds r.1.0 (holds ended) in
+      let h : TracingHolds t = subst DueHolds r.1 (holds ended) in
       record {
         setup = t.setup;
         job = t.job;
-        inputs = r.1.1;
-        printed = sym (ap (λ (x : Answer). x.text) a.answer) ∙ ap (λ (d : Due). (due_answer d).text) r.1.0;
+        inputs = r.2;
+        printed = sym (ap (λ (x : Answer). x.text) a.answer) ∙ ap (λ (d : Due). (due_answer d).text) r.1;
         rows = h.rows;
         spots = h.spots;
       }

@@ -104,7 +104,7 @@ module _ {V F : Type 0} (held : Option Files) (file : FileKind) (name : List ℕ
   pub none-unread : IsUnread held file name due → GivesNone held file name cause reading due
   none-unread (inl is) = inl is
   none-unread (inr (inl is)) = inr (inl is)
-  none-unread (inr (inr h)) = inr (inr (h.0, h.1.0, λ go_on. h.1.1 (λ bytes. on_read file cause (reading bytes) go_on)))
+  none-unread (inr (inr h)) = inr (inr (h.0, h.1, λ go_on. h.2 (λ bytes. on_read file cause (reading bytes) go_on)))
 
   -- a file that is refused, or for whose value memory was wanting
   pub none-refused : (bytes : List ℕ) (fault memory : F) → IsFound held name (Some bytes) → length bytes ≤ 16_777_216

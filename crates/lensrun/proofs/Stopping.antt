@@ -25,7 +25,7 @@ look-found None name = tt
 look-found (Some files) name = refl
 
 -- the statuses of answers over a file: none that only the outside or a report decides
-IsRefusal : Status → Type 0
+abbrev pub IsRefusal : Status → Type 0
 IsRefusal Refused = Unit {0}
 IsRefusal Absent = Unit {0}
 IsRefusal TooLong = Unit {0}
@@ -46,7 +46,7 @@ module _ {V F : Type 0} (held : Option Files) (kind : FileKind) (name : List ℕ
 
   -- an answer that stands whatever would follow is a refusal of the file
   refusal : (found : Option (List ℕ)) (a : Answer) → ((go_on : V → Answer) → a ≡ over_file held kind name cause reading found go_on) → IsRefusal a.status
-  unfolding IsRefusal status_of
+  unfolding status_of
   refusal None a h = subst (λ (x : Answer). IsRefusal x.status) (sym (h (λ v. answer Usage []))) tt
   refusal (Some bytes) a h = by (nat_lt 16_777_216 (length bytes)) refl
     where
@@ -68,7 +68,7 @@ module _ {V F : Type 0} (held : Option Files) (kind : FileKind) (name : List ℕ
       ⊎ IsRefusal (due_answer due).status
   stop_status due (inl is) = inl (ap (λ (d : Due). (due_answer d).status) is, is)
   stop_status due (inr (inl is)) = inr (inl (ap (λ (x : Answer). x.status) is, ap (λ (x : Answer). x.text) is))
-  stop_status due (inr (inr h)) = inr (inr (refusal h.0 (due_answer due) h.1.1))
+  stop_status due (inr (inr h)) = inr (inr (refusal h.0 (due_answer due) h.2))
 
   -- what it answers where the outside doesn't decide
   pub stopped : (due : Due) → GivesNone held kind name cause reading due → IsDecided (due_answer due).status
@@ -78,7 +78,6 @@ module _ {V F : Type 0} (held : Option Files) (kind : FileKind) (name : List ℕ
   stopped due (inr (inr h)) decided = h
 
   pub no_report : (due : Due) → GivesNone held kind name cause reading due → (due_answer due).status ≢ Done
-  unfolding IsRefusal
   no_report due h e = elim (stop_status due h) [
       | inl m ↦ cc (sym e ∙ m.0)
       | inr (inl f) ↦ cc (sym e ∙ f.0)
@@ -86,7 +85,6 @@ module _ {V F : Type 0} (held : Option Files) (kind : FileKind) (name : List ℕ
     ]
 
   pub no_write : (due : Due) → GivesNone held kind name cause reading due → (due_answer due).status ≢ WriteFault
-  unfolding IsRefusal
   no_write due h e = elim (stop_status due h) [
       | inl m ↦ cc (sym e ∙ m.0)
       | inr (inl f) ↦ cc (sym e ∙ f.0)
@@ -94,7 +92,6 @@ module _ {V F : Type 0} (held : Option Files) (kind : FileKind) (name : List ℕ
     ]
 
   pub is_nothing : (due : Due) → GivesNone held kind name cause reading due → (due_answer due).status ≡ Memory → due ≡ Nothing
-  unfolding IsRefusal
   is_nothing due h e = elim (stop_status due h) [
       | inl m ↦ m.1
       | inr (inl f) ↦ absurd (cc (sym e ∙ f.0))
@@ -102,7 +99,6 @@ module _ {V F : Type 0} (held : Option Files) (kind : FileKind) (name : List ℕ
     ]
 
   pub fault_line : (due : Due) → GivesNone held kind name cause reading due → (due_answer due).status ≡ ReadFault → (due_answer due).text ≡ read_fault_line kind
-  unfolding IsRefusal
   fault_line due h e = elim (stop_status due h) [
       | inl m ↦ absurd (cc (sym e ∙ m.0))
       | inr (inl f) ↦ f.1

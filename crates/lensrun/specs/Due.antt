@@ -5,7 +5,6 @@ use Rattle.lensio.specs.Count.{Rose}
 use Rattle.lensio.specs.Taken.{Takes, TakesFront}
 use Rattle.lensio.specs.declared.transfer.SlurpFault.{SlurpFault}
 use Rattle.lensio.specs.declared.transfer.SlurpFault.TheVariants as slurped
-use Rattle.ladder.specs.Room.{HasRoom}
 use Rattle.lensmodel.specs.Texts.FaultText.{absent_line, read_fault_line, too_long_line}
 use Rattle.lensmodel.specs.Files.Picking.{picked}
 use Rattle.lensmodel.specs.Texts.Book.{book_text}
@@ -33,11 +32,10 @@ due_answer (Lens file) = answer Done (lens_text file.lens file.unused)
 due_answer (Trace t) = answer Done (trace_text t.setup t.job)
 due_answer Nothing = answer Memory []
 
--- what is to be traced can be: the setup is well-formed, the job is in its ranges, and there is room for the surfaces
+-- what is to be traced can be: the setup is well-formed, and the job is in its ranges
 pub record CanBeTraced (t : Tracing) : Type 0 where
   pub well : IsWellFormed t.setup
   pub range : IsInRange t.job
-  pub room : HasRoom t.bench
 
 abbrev pub IsReady : Due → Type 0
 IsReady (Trace t) = CanBeTraced t

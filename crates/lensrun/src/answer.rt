@@ -7,7 +7,7 @@ ghost use Rattle.lensmodel.specs.Call.Inputs.{inputs_named};
 ghost use Rattle.lensmodel.specs.Call.TopCall as top;
 ghost use Rattle.lensmodel.specs.Texts.Index.{index_line};
 ghost use Rattle.lensrun.specs.Asked.{inputs};
-ghost use Rattle.lensrun.specs.Due.{due_answer, index_answer, IsReady};
+ghost use Rattle.lensrun.specs.Due.{due_answer, index_answer, IsNoTrace, IsReady};
 ghost use Rattle.lensrun.specs.Found.{IsCounted};
 ghost use Rattle.lensrun.specs.Promise.{IsDueOf};
 
@@ -96,6 +96,7 @@ pub fn trace_due<F: Shelf>(alloc: Global, shelf: &mut F, names: &Inputs<'_>) -> 
 fn index_over(book: &GlassBook, name: &Name, wave: &Dec) -> Due
     requires { pos 0 <ℤ wave.now.mant }
     ensures answer { due_answer result ≡ index_answer name.now.items wave.now book.now }
+    ensures no_trace { IsNoTrace result }
     ensures ready { IsReady result }
 {
     match find(book, name, wave) {
@@ -107,6 +108,7 @@ fn index_over(book: &GlassBook, name: &Name, wave: &Dec) -> Due
 /// The line of the index of a glass.
 fn index_of(picked: &Picked<'_>, wave: &Dec) -> Due
     ensures answer { due_answer result ≡ answer Status.Done (index_line picked.now.glass.name.items wave.now picked.now.index) }
+    ensures no_trace { IsNoTrace result }
     ensures ready { IsReady result }
 {
     let mut text = Line::new();

@@ -3,7 +3,7 @@
 ghost use Rattle.std.specs.Prelude.{◌≡◌, ◌≢◌};
 ghost use Rattle.lensmodel.specs.Texts.FaultText.{usage_line, refused_line, crossed_line, agf_cause, job_cause, tol_cause, zmx_cause};
 ghost use Rattle.lensmodel.specs.Call.Answer.{answer};
-ghost use Rattle.lensrun.specs.Due.{due_answer, unread_answer};
+ghost use Rattle.lensrun.specs.Due.{due_answer, unread_answer, IsNoTrace, IsReady};
 
 use glassbook::book::GlassBook;
 use ladder::bench::Bench;
@@ -152,7 +152,9 @@ pub fn refused_box(fault: TolFault) -> Due
 
 /// Files that don't fit together.
 pub fn crossed(fault: CrossFault) -> Due
-    ensures { due_answer result ≡ answer Status.Refused (crossed_line fault) }
+    ensures answer { due_answer result ≡ answer Status.Refused (crossed_line fault) }
+    ensures no_trace { IsNoTrace result }
+    ensures ready { IsReady result }
 {
     let mut text = Line::new();
     print_cross_fault(fault, &mut text);

@@ -27,12 +27,12 @@ fn box_if<F: Shelf>(
     name: Option<&[u8]>,
     surfaces: u32,
 ) -> Result<Option<TolBox>, Due>
-    ensures value { IfOk result (λ toler. GivesBox (F.held shelf.old) (surfaces - 1) (option_map (λ t. t.now) name) toler) }
+    ensures value { IfOk result (λ toler. GivesBox (F.held shelf.old) (surfaces - 1) (option_map (λ t. t.now) name.entry) toler) }
     ensures sound { IfOk result (λ toler. IsBox (surfaces - 1) (values.tolerances toler)) }
-    ensures none { IfErr result (λ due. GivesNoBox (F.held shelf.old) (surfaces - 1) (option_map (λ t. t.now) name) due) }
-    ensures asks { Takes (F.asked shelf.old) (F.asked shelf.new) (map (λ file. file.1) (box_named (option_map (λ t. t.now) name))) }
+    ensures none { IfErr result (λ due. GivesNoBox (F.held shelf.old) (surfaces - 1) (option_map (λ t. t.now) name.entry) due) }
+    ensures asks { Takes (F.asked shelf.old) (F.asked shelf.new) (map (λ file. file.1) (box_named (option_map (λ t. t.now) name.entry))) }
     ensures held { F.held shelf.new ≡ F.held shelf.old }
-    ensures counts { IsCounted (ended result) (length (box_named (option_map (λ t. t.now) name)))
+    ensures counts { IsCounted (ended result) (length (box_named (option_map (λ t. t.now) name.entry)))
         (F.faults shelf.old) (F.faults shelf.new) (F.absences shelf.old) (F.absences shelf.new) (F.given shelf.old) (F.given shelf.new) }
 {
     match name {
