@@ -1,10 +1,9 @@
 -- A job of lines none of which offends is in its ranges.
-use Rattle.std.proofs.Common.{◌≡◌, ℕ, suc, ◌≤◌, ℤ, pos, negsuc, Bool, true, false, List, [], ◌∷◌, ◌++◌, refl, subst, ap}
+use Rattle.std.proofs.Common.{◌≡◌, ℕ, suc, ℤ, pos, negsuc, Bool, true, false, List, [], ◌∷◌, ◌++◌, refl, subst}
 use Rattle.std.proofs.lemmas.Bool.{ltb-false, not-false, and_from}
 use Rattle.std.proofs.lemmas.List.Elements.{All-nil, All-cons, All-head, All-tail, All-push, All-weaker}
 use Rattle.std.specs.List.{All}
 use Rattle.std.specs.Prelude.{Option, Some, None, unwrap_or, Result, Ok, IfSome, IfOk, IsTrue, codes, not, nat_lt, if◌then◌else◌}
-use Rattle.fixdec.specs.Decimal.{Decimal}
 use Rattle.fixdec.specs.Frac.{whole, ◌*Q◌}
 use Rattle.fixdec.specs.Reading.{decimal_of, split}
 use Rattle.lensmodel.specs.Files.Causes.{or_first, fault_if, first_fault, ok_unless}
@@ -17,7 +16,6 @@ use Rattle.lensmodel.specs.Setup.WellFormed.{IsInRange}
 use Rattle.lensmodel.specs.declared.fault.JobFault.{JobFault}
 use Rattle.lensmodel.specs.declared.fault.JobFault.TheVariants.{Range, TooManyRays}
 use Rattle.lensmodel.specs.declared.job.Ask.{Ask}
-use Rattle.lensmodel.specs.declared.job.Ask.TheVariants.{Ray, Aim, Fan, Spot, First, Seidel}
 use Rattle.lensmodel.specs.declared.job.Job.{Job}
 use Rattle.jobtext.proofs.Growth.{tagged}
 

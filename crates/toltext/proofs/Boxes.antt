@@ -8,7 +8,7 @@ use Rattle.std.specs.List.{All, filter}
 use Rattle.std.specs.Prelude.{Option, Some, None, Result, Ok, IfOk, IsTrue, ◌&&◌, ◌||◌, cond, map, nat_eq, nat_le, not, is_none, if◌then◌else◌}
 use Rattle.lensmodel.specs.Files.Causes.{or_first, fault_if, first_fault, ok_unless}
 use Rattle.lensmodel.specs.Files.Records.{Words, word_at, first_offence}
-use Rattle.lensmodel.specs.Files.Tolerances.{is_TOL, kind_of, tol_of, all_tols, is_wrong, has_bad, tol_faults, record_fault, offence, box_of, of_lines}
+use Rattle.lensmodel.specs.Files.Tolerances.{is_TOL, kind_of, tol_of, all_tols, is_wrong, has_bad, tol_faults, offence, box_of, of_lines}
 use Rattle.lensmodel.specs.Setup.Media.{has_tolerance}
 use Rattle.lensmodel.specs.Setup.Ranges.{is_not_negative, has_place}
 use Rattle.lensmodel.specs.Setup.Values.{same_kind, stands_on}
