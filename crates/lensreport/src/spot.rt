@@ -4,7 +4,7 @@ ghost use Rattle.std.specs.Prelude.{◌≡◌, ◌+◌, ◌≤◌, ◌++◌, [],
 ghost use Rattle.arrayvec.specs.ArrayString.{array_string_len};
 ghost use Rattle.lensmodel.specs.Texts.Rows as texts;
 ghost use Rattle.lensmodel.specs.declared.row.Row.{Row as RowValue};
-ghost use Rattle.lensreport.specs.Spots.{spot_of, spot_text, statistics_text};
+ghost use Rattle.lensreport.specs.Spots.{centroid_text, spot_of, spot_text, statistics_text};
 
 use crate::pieces::{Line, push_named_span, push_number};
 use fixdec::span::Span;
@@ -42,6 +42,17 @@ fn push_mean_square(mean_square: &Step<Span>, out: &mut Line)
     }
 }
 
+/// Appends ` centroid x [..] y [..]`.
+fn push_centroid(x: Span, y: Span, out: &mut Line)
+    requires { array_string_len out.old ≤ 512 }
+    ensures bytes { out.new.bytes ≡ out.old.bytes ++ centroid_text x y }
+    ensures len { array_string_len out.new ≤ array_string_len out.old + 300 }
+{
+    out.push_str(" centroid");
+    push_named_span("x", x, 12, out);
+    push_named_span("y", y, 12, out);
+}
+
 /// Appends ` centroid x [..] y [..] msr [..]`, or what is lost of it.
 fn push_statistics(centroid: &Step<(Span, Span)>, mean_square: &Step<Span>, out: &mut Line)
     requires { array_string_len out.old ≤ 512 }
@@ -50,9 +61,7 @@ fn push_statistics(centroid: &Step<(Span, Span)>, mean_square: &Step<Span>, out:
 {
     match centroid {
         Step::Val((x, y)) => {
-            out.push_str(" centroid");
-            push_named_span("x", *x, 12, out);
-            push_named_span("y", *y, 12, out);
+            push_centroid(*x, *y, out);
             push_mean_square(mean_square, out);
         }
         Step::Empty | Step::Lost(_) => out.push_str(" centroid lost"),

@@ -1,5 +1,7 @@
 //! Each printer, with the bytes that an independent program of the same rules gives.
 
+ghost use Rattle.std.specs.Prelude.{◌≡◌, ◌≤ℤ◌};
+
 use crate::faults::{
     print_absent, print_agf_fault, print_cross_fault, print_job_fault, print_read_fault,
     print_tol_fault, print_too_long, print_usage, print_zmx_fault,
@@ -400,7 +402,7 @@ fn heads_of_traces(rt: HostRuntime) {
     );
 }
 
-fn span(lo: i64, hi: i64) -> Span
+fn span(lo: i32, hi: i32) -> Span
     requires { lo ≤ℤ hi }
     ensures { result ≡ record { lo = lo; hi = hi } }
 {
@@ -478,8 +480,14 @@ fn places(rt: HostRuntime) {
 #[test]
 fn spots(rt: HostRuntime) {
     let x = span(-14000000, 14000000);
-    let y = span(2999977000000, 3000023000000);
-    let msr = span(7199690399776, 7200309600196);
+    let y = Span {
+        lo: 2999977000000,
+        hi: 3000023000000,
+    };
+    let msr = Span {
+        lo: 7199690399776,
+        hi: 7200309600196,
+    };
     for (passes, statistics, text) in [
         (0u32, None, "spot rays 9 passes 0\n"),
         (
