@@ -1,5 +1,5 @@
 -- The compact text of a row's data is its line without the newline.
-use Rattle.std.proofs.Common.{◌≡◌, ℕ, zero, suc, ◌+◌, ◌*◌, ◌/◌, ◌%◌, ◌^◌, ◌<◌, ◌≤◌, ◌==◌, Bool, true, false, cond, List, [], ◌∷◌, ◌++◌, Option, Some, None, ℤ, pos, negsuc, codes, drop, refl, sym, ap, ap₂, ◌∙◌, subst, append_assoc, arith}
+use Rattle.std.proofs.Common.{◌≡◌, ℕ, zero, suc, ◌+◌, ◌/◌, ◌%◌, ◌^◌, ◌≤◌, ◌==◌, Bool, true, false, cond, List, [], ◌∷◌, ◌++◌, Option, Some, None, ℤ, pos, negsuc, codes, drop, refl, sym, ap, ap₂, ◌∙◌, subst, append_assoc, arith}
 use Rattle.std.proofs.lemmas.Bool.{ne_eqb, le-ltb}
 use Rattle.std.specs.Fmt.{decimal, digits, digits_onto, digit_glyph}
 use Rattle.std.specs.Prelude.{unsigned_abs}
@@ -7,7 +7,7 @@ use Rattle.fixdec.specs.DecimalText.{fix_text, last_digits, minus_sign}
 use Rattle.fixdec.specs.Ends.{Ends}
 use Rattle.lensmodel.specs.Texts.JsonRows as rows
 use Rattle.lensmodel.specs.Texts.JsonRows.{json_line}
-use Rattle.lensmodel.specs.Texts.Pieces.{newline, why_text}
+use Rattle.lensmodel.specs.Texts.Pieces.{why_text}
 use Rattle.lensmodel.specs.Texts.Rows.{word_name}
 use Rattle.lensmodel.specs.declared.row.Heading.{Heading}
 use Rattle.lensmodel.specs.declared.row.Place.{Place}
@@ -16,10 +16,10 @@ use Rattle.lensmodel.specs.declared.row.Word.{Word}
 use Rattle.lensmodel.specs.declared.row.Word.TheVariants.{Passes, Vignetted, Outside, Tir, Undecided, Wide, Lost}
 use Rattle.fixdec.specs.declared.step.Why.{Why}
 use Rattle.fixdec.specs.declared.step.Why.TheVariants.{Root, Zero, Range}
-use Rattle.lensreport.specs.JsonData.{count_data, span_data, heading_then, heading_members, place_data, places_data, at_then, overlap_then, why_then, word_members, row_members, row_data}
+use Rattle.lensreport.specs.JsonData.{count_data, span_data, heading_then, place_data, places_data, at_then, overlap_then, why_then, word_members, row_members, row_data}
 use Rattle.lensreport.proofs.JsonObjects.{texts_of, pairs_of, array_text, object_text}
 use Rattle.serde_json.proofs.OnLiterals.{serde_json_on_literals}
-use Rattle.serde_json.specs.Data.{Data, string, number, unsigned, array, object, Items, item, no_items, Members, member, no_members, put}
+use Rattle.serde_json.specs.Data.{Data, string, number, array, item, no_items, Members, member, no_members, put}
 use Rattle.serde_json.specs.Written.{compact_text, has_float, items_have_float, members_have_float}
 
 -- ---- texts that need no escape
@@ -313,13 +313,6 @@ row_whole i row =
     at_whole row.word (member (codes "ray") (count_data i) (overlap_then row.scale row.word later)) (overlap_whole row.scale row.word later listed)
 
 -- ---- members go to the places of their keys
-pub place_puts : (scale : ℕ) (heading : Option Heading) (p : Place)
-    → put (codes "z") (span_data scale p.z) (put (codes "y") (span_data scale p.y) (put (codes "x") (span_data scale p.x)
-    (put (codes "rho") (span_data scale p.rho) (put (codes "path") (span_data scale p.path) (heading_members scale heading)))))
-    ≡ heading_then scale heading (position_members scale p)
-place_puts scale None p = refl
-place_puts scale (Some h) p = refl
-
 pub row_puts : (i scale : ℕ) (places : List Place) (w : Word)
     → put (codes "surfaces") (array (places_data scale places)) (put (codes "scale") (count_data scale) (put (codes "ray") (count_data i) (word_members scale w)))
     ≡ row_members i scale places w

@@ -1,13 +1,13 @@
 //! The line of a ray as a JSON object.
 
-ghost use Rattle.std.specs.Prelude.{◌≡◌, ◌≤◌, [], ◌++◌, IfOk, OnOk};
+ghost use Rattle.std.specs.Prelude.{◌≡◌, ◌≤◌, IfOk, OnOk};
 ghost use Rattle.fixdec.specs.DecimalText.{fix_text};
 ghost use Rattle.lensmodel.specs.Texts.JsonRows.{json_line};
 ghost use Rattle.lensmodel.specs.Texts.Pieces.{why_text};
 ghost use Rattle.lensmodel.specs.Texts.Rows.{word_name as word_text};
 ghost use Rattle.lensreport.specs.JsonData as data_of;
-ghost use Rattle.serde_json.specs.Data.{string as json_string, array as json_array, no_members, put};
-ghost use Rattle.serde_json.specs.View.{view, members_view, items_view};
+ghost use Rattle.serde_json.specs.Data.{string as json_string, array as json_array, put};
+ghost use Rattle.serde_json.specs.View.{view, members_view};
 
 use arrayvec::ArrayString;
 use exactdec::print::print_fix;
@@ -171,11 +171,7 @@ fn why_name(why: Why) -> &'static str
 
 /// The members that say a word: its name, the surface, the intervals that overlap, the cause of a
 /// loss.
-fn word_members(
-    alloc: Global,
-    word: &Word,
-    scale: u32,
-) -> Result<Map<String, Value>, AllocError>
+fn word_members(alloc: Global, word: &Word, scale: u32) -> Result<Map<String, Value>, AllocError>
     requires low { 1 ≤ scale }
     requires high { scale ≤ 15 }
     ensures { IfOk result (λ m. members_view m.entries ≡ data_of.word_members scale word.now) }

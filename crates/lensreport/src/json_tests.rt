@@ -23,10 +23,7 @@ fn place() -> Place {
         },
     };
     Place {
-        rho: Span {
-            lo: 0,
-            hi: 250_000,
-        },
+        rho: Span { lo: 0, hi: 250_000 },
         x: Span {
             lo: -500_000,
             hi: 500_000,

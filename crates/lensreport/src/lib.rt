@@ -1,4 +1,5 @@
-//! The lines of printed texts, each into a buffer of its own and without memory; the JSON line alone takes memory.
+//! The lines of printed texts, each into a buffer of its own and without memory. The line of JSON alone
+//! takes memory.
 #![tactic(auto)]
 
 pub mod faults;
