@@ -8,7 +8,6 @@ use Rattle.lensmodel.specs.declared.setup.Setup.{Setup}
 use Rattle.lensmodel.specs.declared.surface.Surface.{Surface}
 use Rattle.lensmodel.specs.declared.tolerance.TolBox.{TolBox}
 use Rattle.lensmodel.specs.declared.tolerance.TolKind.{TolKind}
-use Rattle.lensmodel.specs.declared.tolerance.TolKind.TheVariants.{Curv, Thic}
 
 abbrev pub decimal : ℤ → ℤ → Decimal
 decimal mant exp = record { mant = mant; exp = exp }
