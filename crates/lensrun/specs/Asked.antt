@@ -2,9 +2,9 @@
 use Rattle.std.specs.Prelude.{ℕ, pos, ◌<ℤ◌, List, length, nat_le, Option, Some, None, option_map, if◌then◌else◌}
 use Rattle.arrayvec.specs.ArrayVec.{ArrayVec}
 use Rattle.lensmodel.specs.Call.Inputs.{Inputs as Named}
-use Rattle.lensmodel.specs.Call.TopCall.{Command as Asked, index, glass, read, trace}
+use Rattle.lensmodel.specs.Call.TopCall.{Command as Asked, index, glass, read, trace, trace_json}
 use Rattle.lensrun.specs.declared.words.Command.{Command}
-use Rattle.lensrun.specs.declared.words.Command.TheVariants.{Index, Glass, Read, Trace}
+use Rattle.lensrun.specs.declared.words.Command.TheVariants.{Index, Glass, Read, Trace, TraceJson}
 use Rattle.lensrun.specs.declared.words.Inputs.{Inputs}
 
 -- the names of the files of a trace
@@ -21,6 +21,7 @@ asked (Index catalogue name wave) = index (record { agf = catalogue.now; name = 
 asked (Glass catalogue) = glass catalogue.now
 asked (Read lens) = read lens.now
 asked (Trace i) = trace (inputs i)
+asked (TraceJson i) = trace_json (inputs i)
 
 -- the same, where there is one
 abbrev pub asked_if : Option Command → Option Asked
@@ -33,6 +34,7 @@ HasWavelength (Index catalogue name wave) = pos 0 <ℤ wave.mant
 HasWavelength (Glass catalogue) = Unit {0}
 HasWavelength (Read lens) = Unit {0}
 HasWavelength (Trace i) = Unit {0}
+HasWavelength (TraceJson i) = Unit {0}
 
 -- a word of at most n bytes as a name, each byte one unit
 abbrev pub name_within : ℕ → List ℕ → Option (ArrayVec ℕ)

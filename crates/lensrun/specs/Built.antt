@@ -9,7 +9,7 @@ is_built (index c) = true
 is_built (glass agf) = true
 is_built (read zmx) = true
 is_built (trace i) = true
-is_built (trace_json i) = false
+is_built (trace_json i) = true
 is_built (first i) = false
 is_built (seidel i) = false
 

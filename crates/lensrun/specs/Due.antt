@@ -12,8 +12,9 @@ use Rattle.lensmodel.specs.Texts.Index.{index_line}
 use Rattle.lensmodel.specs.Texts.Lens.{lens_text}
 use Rattle.lensmodel.specs.Call.Answer.{Contents, Answer, answer, on_checked}
 use Rattle.lensmodel.specs.Call.Inputs.{Inputs, AreInputs}
-use Rattle.lensmodel.specs.Call.TopCall.{Command, trace}
+use Rattle.lensmodel.specs.Call.TopCall.{Command, trace, trace_json}
 use Rattle.lensmodel.specs.Call.Trace.{trace_text, RowsHold, SpotsHold}
+use Rattle.lensmodel.specs.Call.TraceJson.{json_text}
 use Rattle.lensmodel.specs.Setup.Values.{image}
 use Rattle.lensmodel.specs.Setup.WellFormed.{IsWellFormed, IsInRange}
 use Rattle.lensmodel.specs.declared.glass.Glass.{Glass}
@@ -21,7 +22,7 @@ use Rattle.lensmodel.specs.declared.status.FileKind.{FileKind}
 use Rattle.lensmodel.specs.declared.status.Status.{Status}
 use Rattle.lensmodel.specs.declared.status.Status.TheVariants.{Done, Absent, ReadFault, TooLong, WriteFault, Memory}
 use Rattle.lensrun.specs.declared.due.Due.{Due}
-use Rattle.lensrun.specs.declared.due.Due.TheVariants.{Line, Glasses, Lens, Trace, Nothing}
+use Rattle.lensrun.specs.declared.due.Due.TheVariants.{Line, Glasses, Lens, Trace, TraceJson, Nothing}
 use Rattle.lensrun.specs.declared.due.Tracing.{Tracing}
 
 -- what is due, as an answer
@@ -30,6 +31,7 @@ due_answer (Line status text) = answer status text.bytes
 due_answer (Glasses book) = answer Done (book_text book)
 due_answer (Lens file) = answer Done (lens_text file.lens file.unused)
 due_answer (Trace t) = answer Done (trace_text t.setup t.job)
+due_answer (TraceJson t) = answer Done (json_text t.setup t.job)
 due_answer Nothing = answer Memory []
 
 -- what is to be traced can be: the setup is well-formed, and the job is in its ranges
@@ -39,6 +41,7 @@ pub record CanBeTraced (t : Tracing) : Type 0 where
 
 abbrev pub IsReady : Due → Type 0
 IsReady (Trace t) = CanBeTraced t
+IsReady (TraceJson t) = CanBeTraced t
 IsReady due = Unit {0}
 
 -- the rows that are due hold, and the spots
@@ -48,25 +51,29 @@ pub record TracingHolds (t : Tracing) : Type 0 where
 
 abbrev pub DueHolds : Due → Type 0
 DueHolds (Trace t) = TracingHolds t
+DueHolds (TraceJson t) = RowsHold t.setup t.job
 DueHolds due = Unit {0}
 
 -- how many surfaces are prepared for what is due: those from 1 to the image, at four scales
 abbrev pub preparations : Due → ℕ
 preparations (Trace t) = 4 * image t.setup
+preparations (TraceJson t) = 4 * image t.setup
 preparations due = 0
 
 -- what is due is no report of a trace
 abbrev pub IsNoTrace : Due → Type 0
 IsNoTrace (Trace t) = ⊥
+IsNoTrace (TraceJson t) = ⊥
 IsNoTrace due = Unit {0}
 
--- what is due is the report of a trace of these files
-abbrev pub IsTraceOf : Contents → Inputs → Due → Type 0
-IsTraceOf files i due = (t : Tracing) × (due ≡ Trace t) × AreInputs files i t.setup t.job
+-- what is due is the report of a trace of these files, in lines or in JSON
+abbrev pub IsTraceOf : (Tracing → Due) → Contents → Inputs → Due → Type 0
+IsTraceOf report files i due = (t : Tracing) × (due ≡ report t) × AreInputs files i t.setup t.job
 
--- a trace is due for the command trace alone, and its report is that of the command's files
+-- a trace is due for a command that traces alone, and its report is that of the command's files
 abbrev pub RestsOn : Contents → Option Command → Due → Type 0
-RestsOn files (Some (trace i)) due = (due_answer due).status ≡ Done → IsTraceOf files i due
+RestsOn files (Some (trace i)) due = (due_answer due).status ≡ Done → IsTraceOf Trace files i due
+RestsOn files (Some (trace_json i)) due = (due_answer due).status ≡ Done → IsTraceOf TraceJson files i due
 RestsOn files c due = IsNoTrace due
 
 -- a file that isn't read
@@ -80,7 +87,15 @@ unread_answer file slurped.Memory = answer Memory []
 abbrev pub index_answer : List ℕ → Decimal → List Glass → Answer
 index_answer name wave book = on_checked (picked book name wave) (λ p. answer Done (index_line p.glass.name.items wave p.index))
 
--- the call ended with an answer's status and wrote its text, or a front of it to a sink that failed
-abbrev pub Delivers : Answer → Status → Option (List ℕ) → Option (List ℕ) → ℕ → ℕ → Type 0
-Delivers a ended old new before now =
-    ((ended ≡ a.status) × Takes old new a.text) ⊎ ((ended ≡ WriteFault) × Rose before now × TakesFront old new a.text)
+-- its lines are made of memory, one by one
+abbrev pub IsStreamed : Due → Type 0
+IsStreamed (TraceJson t) = Unit {0}
+IsStreamed due = ⊥
+
+-- the call ended with the status that is due and wrote the text, or a front of it: to a sink that failed, or where memory for one of
+-- its lines was wanting
+abbrev pub Delivers : Due → Status → Option (List ℕ) → Option (List ℕ) → ℕ → ℕ → Type 0
+Delivers due ended old new before now =
+    ((ended ≡ (due_answer due).status) × Takes old new (due_answer due).text)
+    ⊎ ((ended ≡ WriteFault) × Rose before now × TakesFront old new (due_answer due).text)
+    ⊎ ((ended ≡ Memory) × IsStreamed due × TakesFront old new (due_answer due).text)

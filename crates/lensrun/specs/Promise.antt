@@ -4,8 +4,8 @@ use Rattle.lensio.specs.Held.{Files}
 use Rattle.lensio.specs.Taken.{Takes, TakesFront}
 use Rattle.lensmodel.specs.Texts.FaultText.{absent_line, read_fault_line}
 use Rattle.lensmodel.specs.Call.Answer.{Contents, answer}
-use Rattle.lensmodel.specs.Call.Inputs.{AreInputs}
-use Rattle.lensmodel.specs.Call.TopCall.{Command, Means, answer_of, command_answer, files_of, trace}
+use Rattle.lensmodel.specs.Call.Inputs.{Inputs, AreInputs}
+use Rattle.lensmodel.specs.Call.TopCall.{Command, Means, answer_of, command_answer, files_of, trace, trace_json}
 use Rattle.lensmodel.specs.Setup.Values.{image}
 use Rattle.lensmodel.specs.declared.job.Job.{Job as AskedRays}
 use Rattle.lensmodel.specs.declared.setup.Setup.{Setup}
@@ -82,25 +82,40 @@ WritesReadFaultFront held words old new = (text : List ℕ) × IsReadFaultLine h
 abbrev pub WritesDueFront : Option Files → List (List ℕ) → Option (List ℕ) → Option (List ℕ) → Type 0
 WritesDueFront held words old new = OfFiles held (λ files. TakesFront old new (outcome files words).text)
 
+-- a report whose lines are made of memory one by one
+abbrev pub IsStreamedReport : Option Command → Type 0
+IsStreamedReport (Some (trace_json i)) = Unit {0}
+IsStreamedReport c = ⊥
+
+-- what was written where memory was wanting: nothing, or a front of such a report
+abbrev pub WritesWanting : Option Files → List (List ℕ) → Option (List ℕ) → Option (List ℕ) → Type 0
+WritesWanting held words old new = Takes old new [] ⊎ (IsStreamedReport (command_of words) × WritesDueFront held words old new)
+
 -- where the words and the files that are told make a report, the call is done or memory was wanting
 abbrev pub IsComplete : Option Files → List (List ℕ) → Status → Type 0
 IsComplete None words ended = Unit {0}
 IsComplete (Some files) words ended = (outcome (by_name files) words).status ≡ Done → (ended ≡ Done) ⊎ (ended ≡ Memory)
 
--- the surfaces of the lens that a command traces were prepared, each from 1 to the image at four scales
+-- the surfaces of the lens of these files were prepared, each from 1 to the image at four scales
+abbrev pub PreparesSetup : Contents → Inputs → ℕ → ℕ → Type 0
+PreparesSetup files i before now = (s : Setup) × (job : AskedRays) × AreInputs files i s job × (now ≡ before + 4 * image s)
+
+-- those of the lens that a command traces were
 abbrev pub PreparesLens : Contents → Option Command → ℕ → ℕ → Type 0
-PreparesLens files (Some (trace i)) before now = (s : Setup) × (job : AskedRays) × AreInputs files i s job × (now ≡ before + 4 * image s)
+PreparesLens files (Some (trace i)) before now = PreparesSetup files i before now
+PreparesLens files (Some (trace_json i)) before now = PreparesSetup files i before now
 PreparesLens files c before now = ⊥
 
 -- no surface was prepared, or those of the lens once
 abbrev pub Prepares : Option Files → List (List ℕ) → ℕ → ℕ → Type 0
 Prepares held words before now = (now ≡ before) ⊎ OfFiles held (λ files. PreparesLens files (command_of words) before now)
 
--- the statuses of calls that make no report
-abbrev pub MakesNoReport : Status → Type 0
-MakesNoReport Done = ⊥
-MakesNoReport WriteFault = ⊥
-MakesNoReport status = Unit {0}
+-- the statuses of calls of a command that begin no report
+abbrev pub BeginsNoReport : Option Command → Status → Type 0
+BeginsNoReport c Done = ⊥
+BeginsNoReport c WriteFault = ⊥
+BeginsNoReport c Memory = ¬ IsStreamedReport c
+BeginsNoReport c status = Unit {0}
 
 -- ---- what is gathered for a command
 -- the answer is what is due, and a report rests on the command's files

@@ -1,15 +1,16 @@
 //! What each command is due to write over its files.
 
-ghost use Rattle.std.specs.Prelude.{◌≡◌, pos, ◌<ℤ◌, ◌∷◌, [], Some, length, map};
+ghost use Rattle.std.specs.Prelude.{◌≡◌, pos, ◌<ℤ◌, ◌∷◌, [], IfOk, IfErr, Some, length, map};
 ghost use Rattle.lensio.specs.Taken.{Takes, TakesFront};
 ghost use Rattle.lensmodel.specs.Call.Answer.{answer};
 ghost use Rattle.lensmodel.specs.Call.Inputs.{inputs_named};
 ghost use Rattle.lensmodel.specs.Call.TopCall as top;
 ghost use Rattle.lensmodel.specs.Texts.Index.{index_line};
 ghost use Rattle.lensrun.specs.Asked.{inputs};
-ghost use Rattle.lensrun.specs.Due.{due_answer, index_answer, IsNoTrace, IsReady};
-ghost use Rattle.lensrun.specs.Found.{IsCounted};
-ghost use Rattle.lensrun.specs.Promise.{IsDueOf};
+ghost use Rattle.lensrun.specs.Due.{due_answer, index_answer, CanBeTraced, IsNoTrace, IsReady};
+ghost use Rattle.lensrun.specs.Found.{IsCounted, ended};
+ghost use Rattle.lensrun.specs.Joined.{MakesNone, MakesSetup};
+ghost use Rattle.lensrun.specs.Promise.{IsDueOf, OfFiles};
 
 use crate::due::{Due, Tracing, crossed};
 use crate::files::{book_of, lens_of};
@@ -75,7 +76,26 @@ pub fn read_due<F: Shelf>(alloc: Global, shelf: &mut F, lens: &[u8]) -> Due
     }
 }
 
-/// The rows of the rays of a job. The room for the prepared surfaces is taken before the first file is asked for.
+/// A lens with its job, and room for the prepared surfaces, which is taken before the first file is
+/// asked for.
+fn tracing<F: Shelf>(alloc: Global, shelf: &mut F, names: &Inputs<'_>) -> Result<Tracing, Due>
+    ensures given { IfOk result (λ t. OfFiles (F.held shelf.old) (λ files. MakesSetup files (inputs names.now) t.setup t.job)) }
+    ensures ready { IfOk result CanBeTraced }
+    ensures none { IfErr result (λ due. MakesNone (F.held shelf.old) (inputs names.now) due) }
+    ensures asks { TakesFront (F.asked shelf.old) (F.asked shelf.new) (map (λ file. file.1) (inputs_named (inputs names.now))) }
+    ensures counts { IsCounted (ended result) (length (inputs_named (inputs names.now)))
+        (F.faults shelf.old) (F.faults shelf.new) (F.absences shelf.old) (F.absences shelf.new) (F.given shelf.old) (F.given shelf.new) }
+{
+    let Ok(bench) = Bench::room(alloc) else {
+        return Err(Due::Nothing);
+    };
+    match setup_of(alloc, shelf, names) {
+        Ok((setup, job)) => Ok(Tracing { setup, job, bench }),
+        Err(due) => Err(due),
+    }
+}
+
+/// The rows of the rays of a job.
 pub fn trace_due<F: Shelf>(alloc: Global, shelf: &mut F, names: &Inputs<'_>) -> Due
     ensures due { IsDueOf (F.held shelf.old) (Some (top.trace (inputs names.now))) result }
     ensures ready { IsReady result }
@@ -83,11 +103,22 @@ pub fn trace_due<F: Shelf>(alloc: Global, shelf: &mut F, names: &Inputs<'_>) -> 
     ensures counts { IsCounted (Some (due_answer result).status) (length (inputs_named (inputs names.now)))
         (F.faults shelf.old) (F.faults shelf.new) (F.absences shelf.old) (F.absences shelf.new) (F.given shelf.old) (F.given shelf.new) }
 {
-    let Ok(bench) = Bench::room(alloc) else {
-        return Due::Nothing;
-    };
-    match setup_of(alloc, shelf, names) {
-        Ok((setup, job)) => Due::Trace(Tracing { setup, job, bench }),
+    match tracing(alloc, shelf, names) {
+        Ok(tracing) => Due::Trace(tracing),
+        Err(due) => due,
+    }
+}
+
+/// The same rows as JSON.
+pub fn json_due<F: Shelf>(alloc: Global, shelf: &mut F, names: &Inputs<'_>) -> Due
+    ensures due { IsDueOf (F.held shelf.old) (Some (top.trace_json (inputs names.now))) result }
+    ensures ready { IsReady result }
+    ensures asks { TakesFront (F.asked shelf.old) (F.asked shelf.new) (map (λ file. file.1) (inputs_named (inputs names.now))) }
+    ensures counts { IsCounted (Some (due_answer result).status) (length (inputs_named (inputs names.now)))
+        (F.faults shelf.old) (F.faults shelf.new) (F.absences shelf.old) (F.absences shelf.new) (F.given shelf.old) (F.given shelf.new) }
+{
+    match tracing(alloc, shelf, names) {
+        Ok(tracing) => Due::TraceJson(tracing),
         Err(due) => due,
     }
 }

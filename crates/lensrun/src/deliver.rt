@@ -5,9 +5,11 @@ ghost use Rattle.lensio.specs.Count.{Rose};
 ghost use Rattle.lensio.specs.Taken.{Takes, TakesFront};
 ghost use Rattle.lensmodel.specs.Texts.Book.{book_text};
 ghost use Rattle.lensmodel.specs.Texts.Lens.{lens_text};
-ghost use Rattle.lensrun.specs.Due.{due_answer, preparations, Delivers, DueHolds, IsReady};
+ghost use Rattle.lensrun.specs.Due.{preparations, Delivers, DueHolds, IsReady};
+ghost use Rattle.lensrun.specs.Streams.{streamed_status};
 
 use crate::due::Due;
+use crate::json::{Unwritten, write_json};
 use crate::lines::{Wavelengths, gather_surfaces};
 use crate::report::{Piece, gather_line, gather_lines};
 use crate::trace::write_trace;
@@ -20,14 +22,20 @@ use lensreport::glass::print_glasses;
 use lensreport::lens::print_lens;
 use lensreport::pieces::Line;
 use sagform::steps::Steps;
+use std::alloc::Global;
 use std::sync::ledger::Ledger;
 use zmxread::file::ZmxFile;
 
 /// Writes what is due, and answers how the call ends. Each surface of a lens that is traced is
 /// prepared once at each scale, which counts a step.
-pub fn deliver<K: Sink, L: Ledger>(due: Due, out: &mut K, steps: &mut Steps<L>) -> Status
+pub fn deliver<K: Sink, L: Ledger>(
+    alloc: Global,
+    due: Due,
+    out: &mut K,
+    steps: &mut Steps<L>,
+) -> Status
     requires { IsReady due }
-    ensures delivers { Delivers (due_answer due) result (K.taken out.old) (K.taken out.new) (K.faults out.old) (K.faults out.new) }
+    ensures delivers { Delivers due result (K.taken out.old) (K.taken out.new) (K.faults out.old) (K.faults out.new) }
     ensures taken { result ≢ Status.WriteFault → K.faults out.new ≡ K.faults out.old }
     ensures nothing { due ≡ Due.Nothing → result ≡ Status.Memory }
     ensures holds { result ≡ Status.Done → DueHolds due }
@@ -41,6 +49,14 @@ pub fn deliver<K: Sink, L: Ledger>(due: Due, out: &mut K, steps: &mut Steps<L>) 
             write_trace(&t.setup, &t.job, &mut t.bench, out, steps),
             Status::Done,
         ),
+        Due::TraceJson(mut t) => streamed(write_json(
+            alloc,
+            &t.setup,
+            &t.job,
+            &mut t.bench,
+            out,
+            steps,
+        )),
         Due::Nothing => Status::Memory,
     }
 }
@@ -52,6 +68,17 @@ fn ended(written: Result<(), Failed>, status: Status) -> Status
     match written {
         Ok(()) => status,
         Err(Failed) => Status::WriteFault,
+    }
+}
+
+/// How a call ends whose lines were made and written one by one, or weren't.
+fn streamed(written: Result<(), Unwritten>) -> Status
+    ensures { result ≡ streamed_status written }
+{
+    match written {
+        Ok(()) => Status::Done,
+        Err(Unwritten::Failed) => Status::WriteFault,
+        Err(Unwritten::Memory) => Status::Memory,
     }
 }
 

@@ -35,6 +35,8 @@ pub enum Due {
     Lens(ZmxFile),
     /// The rows of the rays of a job, with which the call is done.
     Trace(Tracing),
+    /// The same rows as JSON.
+    TraceJson(Tracing),
     /// Nothing, for want of memory.
     Nothing,
 }

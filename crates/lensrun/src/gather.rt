@@ -9,7 +9,7 @@ ghost use Rattle.lensrun.specs.Due.{due_answer, IsReady};
 ghost use Rattle.lensrun.specs.Found.{IsCounted};
 ghost use Rattle.lensrun.specs.Promise.{IsDueOf, names_of};
 
-use crate::answer::{glass_due, index_due, read_due, trace_due};
+use crate::answer::{glass_due, index_due, json_due, read_due, trace_due};
 use crate::due::{Due, usage};
 use crate::words::{Command, command_of};
 use lensio::shelf::Shelf;
@@ -44,5 +44,6 @@ pub fn gather<F: Shelf>(alloc: Global, words: &[Vec<u8>], shelf: &mut F) -> Due
         Command::Glass { catalogue } => glass_due(alloc, shelf, catalogue),
         Command::Read { lens } => read_due(alloc, shelf, lens),
         Command::Trace(names) => trace_due(alloc, shelf, &names),
+        Command::TraceJson(names) => json_due(alloc, shelf, &names),
     }
 }

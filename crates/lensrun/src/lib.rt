@@ -7,6 +7,7 @@ mod due;
 mod files;
 mod gather;
 mod joined;
+mod json;
 mod lines;
 mod report;
 pub mod run;

@@ -2,9 +2,9 @@
 
 ghost use Rattle.std.specs.Prelude.{◌≡◌, ◌≢◌, ◌+◌, ◌*◌, ◌⊎◌, ◌<◌, [], None, length, map};
 ghost use Rattle.lensio.specs.Count.{Rose, RoseBy};
-ghost use Rattle.lensio.specs.Taken.{Takes, TakesFront};
+ghost use Rattle.lensio.specs.Taken.{TakesFront};
 ghost use Rattle.lensrun.specs.Built.{command_of};
-ghost use Rattle.lensrun.specs.Promise.{IsComplete, IsDecided, IsDue, MakesNoReport, OfFiles, Prepares, WritesDueFront, WritesReadFault, WritesReadFaultFront, names_of};
+ghost use Rattle.lensrun.specs.Promise.{IsComplete, IsDecided, IsDue, BeginsNoReport, OfFiles, Prepares, WritesDueFront, WritesReadFault, WritesReadFaultFront, WritesWanting, names_of};
 
 use crate::deliver::deliver;
 use crate::gather::gather;
@@ -18,8 +18,8 @@ use std::sync::ledger::Ledger;
 
 /// Does what the words ask: reads the files from the shelf, checks them, and writes the report to
 /// the sink. On every status but `Done`, `WriteFault` and `Memory` the text is one fault line; with
-/// `Memory`, which is free where the words fit a command, nothing is written. Each surface that is
-/// prepared counts a step.
+/// `Memory`, which is free where the words fit a command, nothing is written, or a front of rows in
+/// JSON. Each surface that is prepared counts a step.
 pub fn run<F: Shelf, K: Sink, L: Ledger>(
     alloc: Global,
     words: &[Vec<u8>],
@@ -29,7 +29,7 @@ pub fn run<F: Shelf, K: Sink, L: Ledger>(
 ) -> Status
     // Only a trace prepares surfaces: each of the lens once at each scale, whatever the number of rays.
     ensures steps { Prepares (F.held shelf.old) (map (λ w. w.items) words.now) steps.old steps.new }
-    ensures no_steps { MakesNoReport result → steps.new ≡ steps.old }
+    ensures no_steps { BeginsNoReport (command_of (map (λ w. w.items) words.now)) result → steps.new ≡ steps.old }
 
     // The status and the text that are due, unless the outside fails.
     ensures outcome { let said = map (λ w. w.items) words.now in IsDecided result → OfFiles (F.held shelf.old) (IsDue said result (K.taken out.old) (K.taken out.new)) }
@@ -52,12 +52,12 @@ pub fn run<F: Shelf, K: Sink, L: Ledger>(
     ensures taken { result ≢ Status.WriteFault → K.faults out.new ≡ K.faults out.old }
 
     // What is written where the outside fails: the line of a failed read, a front of the text of a
-    // sink that fails, and nothing for want of memory.
+    // sink that fails, and for want of memory nothing, or of rows in JSON a front.
     ensures read_fault_text { let said = map (λ w. w.items) words.now in result ≡ Status.ReadFault → WritesReadFault (F.held shelf.old) said (K.taken out.old) (K.taken out.new) }
     ensures front { let said = map (λ w. w.items) words.now in result ≡ Status.WriteFault →
         WritesDueFront (F.held shelf.old) said (K.taken out.old) (K.taken out.new)
         ⊎ (Rose (F.faults shelf.old) (F.faults shelf.new) × WritesReadFaultFront (F.held shelf.old) said (K.taken out.old) (K.taken out.new)) }
-    ensures silent { result ≡ Status.Memory → Takes (K.taken out.old) (K.taken out.new) [] }
+    ensures silent { let said = map (λ w. w.items) words.now in result ≡ Status.Memory → WritesWanting (F.held shelf.old) said (K.taken out.old) (K.taken out.new) }
 
     // Where nothing of the outside fails, a report that is due is written, unless memory is wanting.
     ensures complete { let said = map (λ w. w.items) words.now in
@@ -65,5 +65,5 @@ pub fn run<F: Shelf, K: Sink, L: Ledger>(
         → IsComplete (F.held shelf.old) said result }
 {
     let due = gather(alloc, words, shelf);
-    deliver(due, out, steps)
+    deliver(alloc, due, out, steps)
 }

@@ -38,6 +38,8 @@ pub enum Command<'a> {
     },
     /// `trace ZMX AGF JOB [TOL]`: the rows of all rays of a job.
     Trace(Inputs<'a>),
+    /// `trace-json ZMX AGF JOB [TOL]`: the same rows as JSON, a line each.
+    TraceJson(Inputs<'a>),
 }
 
 /// The names of the files of a trace.
@@ -158,6 +160,14 @@ fn trace_words(words: &[Vec<u8>]) -> Option<Command<'_>>
     Some(Command::Trace(input_names(words)?))
 }
 
+/// The words after `trace-json`.
+fn json_words(words: &[Vec<u8>]) -> Option<Command<'_>>
+    ensures exact { asked_if result ≡ option_map top.trace_json (files.boxed_inputs (map (λ w. w.items) words.now)) }
+    ensures wave { IfSome result HasWavelength }
+{
+    Some(Command::TraceJson(input_names(words)?))
+}
+
 /// The command that the words ask for; None where they fit no command.
 pub fn command_of(words: &[Vec<u8>]) -> Option<Command<'_>>
     ensures exact { asked_if result ≡ command_of (map (λ w. w.items) words.now) }
@@ -172,6 +182,8 @@ pub fn command_of(words: &[Vec<u8>]) -> Option<Command<'_>>
         read_words(rest)
     } else if name.as_slice() == b"trace".as_slice() {
         trace_words(rest)
+    } else if name.as_slice() == b"trace-json".as_slice() {
+        json_words(rest)
     } else {
         None
     }
