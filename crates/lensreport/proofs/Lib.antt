@@ -1,1 +1,3 @@
 mod Aspheres
+mod Spots
+mod Totals

@@ -1,1 +1,3 @@
+pub mod Spots
+pub mod Totals
 pub mod UnusedTags

@@ -5,7 +5,7 @@ ghost use Rattle.arrayvec.specs.ArrayString.{array_string_len};
 ghost use Rattle.lensmodel.specs.Texts.FaultText as spec;
 
 use crate::pieces::{Line, push_number};
-use lensmodel::fault::{AgfFault, CrossFault, TextFault, ZmxFault};
+use lensmodel::fault::{AgfFault, CrossFault, JobFault, TextFault, TolFault, ZmxFault};
 use lensmodel::status::FileKind;
 
 /// Writes `usage`. The line is empty before, here and below.
@@ -191,6 +191,41 @@ fn push_zmx_cause(fault: ZmxFault, out: &mut Line)
     }
 }
 
+/// Appends the cause of a refused job, with its line; nothing for want of memory.
+fn push_job_cause(fault: JobFault, out: &mut Line)
+    requires { array_string_len out.old ≤ 512 }
+    ensures bytes { out.new.bytes ≡ out.old.bytes ++ spec.job_cause fault }
+    ensures len { array_string_len out.new ≤ array_string_len out.old + 90 }
+{
+    match fault {
+        JobFault::Text(text) => push_text_cause(text, out),
+        JobFault::Word { line } => push_at_line("word", line, out),
+        JobFault::BadNumber { line } => push_at_line("bad-number", line, out),
+        JobFault::Missing { line } => push_at_line("missing", line, out),
+        JobFault::Range { line } => push_at_line("range", line, out),
+        JobFault::TooManyRays => out.push_str("too-many-rays"),
+        JobFault::Memory => {}
+    }
+}
+
+/// Appends the cause of a refused tolerance box, with its line; nothing for want of memory.
+fn push_tol_cause(fault: TolFault, out: &mut Line)
+    requires { array_string_len out.old ≤ 512 }
+    ensures bytes { out.new.bytes ≡ out.old.bytes ++ spec.tol_cause fault }
+    ensures len { array_string_len out.new ≤ array_string_len out.old + 90 }
+{
+    match fault {
+        TolFault::Text(text) => push_text_cause(text, out),
+        TolFault::Word { line } => push_at_line("word", line, out),
+        TolFault::BadNumber { line } => push_at_line("bad-number", line, out),
+        TolFault::Negative { line } => push_at_line("negative", line, out),
+        TolFault::NoSurface { line } => push_at_line("no-surface", line, out),
+        TolFault::Twice { line } => push_at_line("twice", line, out),
+        TolFault::TooMany { line } => push_at_line("too-many", line, out),
+        TolFault::Memory => {}
+    }
+}
+
 /// Appends the cause of files that don't fit together, with its place.
 fn push_cross_cause(fault: CrossFault, out: &mut Line)
     requires { array_string_len out.old ≤ 512 }
@@ -228,6 +263,30 @@ pub fn print_zmx_fault(fault: ZmxFault, out: &mut Line)
     out.push_str(file_word(FileKind::Zmx));
     out.push_str(" ");
     push_zmx_cause(fault, out);
+    out.push_str("\n");
+}
+
+/// Writes `refused job CAUSE`, with the cause's line.
+pub fn print_job_fault(fault: JobFault, out: &mut Line)
+    requires { out.old.bytes ≡ [] }
+    ensures { out.new.bytes ≡ spec.refused_line FileKind.Job (spec.job_cause fault) }
+{
+    out.push_str("refused ");
+    out.push_str(file_word(FileKind::Job));
+    out.push_str(" ");
+    push_job_cause(fault, out);
+    out.push_str("\n");
+}
+
+/// Writes `refused tol CAUSE`, with the cause's line.
+pub fn print_tol_fault(fault: TolFault, out: &mut Line)
+    requires { out.old.bytes ≡ [] }
+    ensures { out.new.bytes ≡ spec.refused_line FileKind.Tol (spec.tol_cause fault) }
+{
+    out.push_str("refused ");
+    out.push_str(file_word(FileKind::Tol));
+    out.push_str(" ");
+    push_tol_cause(fault, out);
     out.push_str("\n");
 }
 

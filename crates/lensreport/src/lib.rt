@@ -6,5 +6,8 @@ pub mod glass;
 pub mod index;
 pub mod lens;
 pub mod pieces;
+pub mod rows;
+pub mod spot;
 #[cfg(test)]
 mod tests;
+pub mod total;

@@ -4,7 +4,7 @@ ghost use Rattle.std.specs.Prelude.{◌≡◌, ℕ, pos, ◌+◌, ◌≤◌, ◌
 ghost use Rattle.std.specs.Fmt.{decimal};
 ghost use Rattle.arrayvec.specs.ArrayString.{array_string_len};
 ghost use Rattle.fixdec.specs.DecimalText.{dec_text, fix_text};
-ghost use Rattle.lensmodel.specs.Texts.Pieces.{name_text, span_text, unit_byte};
+ghost use Rattle.lensmodel.specs.Texts.Pieces.{name_text, named_span, span_text, unit_byte};
 
 use arrayvec::ArrayString;
 use exactdec::print::{print_dec, print_fix};
@@ -69,6 +69,21 @@ pub fn push_span(s: Span, scale: u32, out: &mut Line)
     out.push_str(",");
     push_fix(s.hi, scale, out);
     out.push_str("]");
+}
+
+/// Appends ` NAME [a,b]`: a span at a scale from 1 to 15 after its name, which has at most 8 bytes.
+pub fn push_named_span(name: &str, s: Span, scale: u32, out: &mut Line)
+    requires short { length name.now ≤ 8 }
+    requires room { array_string_len out.old + 141 ≤ 2048 }
+    requires low { 1 ≤ scale }
+    requires high { scale ≤ 15 }
+    ensures bytes { out.new.bytes ≡ out.old.bytes ++ named_span name.now scale s }
+    ensures len { array_string_len out.new ≤ array_string_len out.old + 141 }
+{
+    out.push_str(" ");
+    out.push_str(name);
+    out.push_str(" ");
+    push_span(s, scale, out);
 }
 
 /// A unit as it is printed: from 33 to 126 as itself, and every other as `?`.

@@ -1,20 +1,26 @@
 //! Each printer, with the bytes that an independent program of the same rules gives.
 
 use crate::faults::{
-    print_absent, print_agf_fault, print_cross_fault, print_read_fault, print_too_long,
-    print_usage, print_zmx_fault,
+    print_absent, print_agf_fault, print_cross_fault, print_job_fault, print_read_fault,
+    print_tol_fault, print_too_long, print_usage, print_zmx_fault,
 };
 use crate::glass::{print_glass, print_glasses};
 use crate::index::print_index;
 use crate::lens::{print_asphere, print_lens, print_surface, print_unused, print_wave};
 use crate::pieces::Line;
+use crate::rows::{print_place, print_ray, print_trace_head};
+use crate::spot::{Spot, Statistics, print_spot};
+use crate::total::{Totals, print_total};
 use arrayvec::ArrayVec;
 use fixdec::dec::Dec;
 use fixdec::span::Span;
-use lensmodel::fault::{AgfFault, CrossFault, TextFault, ZmxFault};
+use fixdec::step::{Step, Why};
+use lensmodel::fault::{AgfFault, CrossFault, JobFault, TextFault, TolFault, ZmxFault};
 use lensmodel::glass::Glass;
 use lensmodel::name::Name;
 use lensmodel::prescription::Prescription;
+use lensmodel::row::{Heading, Place, Row, Word};
+use lensmodel::setup::Setup;
 use lensmodel::status::FileKind;
 use lensmodel::surface::{Surface, SurfaceKind};
 
@@ -320,4 +326,211 @@ fn refused_lenses(rt: HostRuntime) {
         print_zmx_fault(fault, &mut out);
         assert_eq!(rt; out.as_str(), text);
     }
+}
+
+#[test]
+fn refused_jobs(rt: HostRuntime) {
+    for (fault, text) in [
+        (
+            JobFault::Text(TextFault::Surrogate { line: 3 }),
+            "refused job surrogate line 3\n",
+        ),
+        (JobFault::Word { line: 1 }, "refused job word line 1\n"),
+        (
+            JobFault::BadNumber { line: 4 },
+            "refused job bad-number line 4\n",
+        ),
+        (
+            JobFault::Missing { line: 2 },
+            "refused job missing line 2\n",
+        ),
+        (JobFault::Range { line: 2 }, "refused job range line 2\n"),
+        (JobFault::TooManyRays, "refused job too-many-rays\n"),
+    ] {
+        let mut out = Line::new();
+        print_job_fault(fault, &mut out);
+        assert_eq!(rt; out.as_str(), text);
+    }
+}
+
+#[test]
+fn refused_boxes(rt: HostRuntime) {
+    for (fault, text) in [
+        (TolFault::Text(TextFault::OddByte), "refused tol odd-byte\n"),
+        (TolFault::Word { line: 1 }, "refused tol word line 1\n"),
+        (
+            TolFault::BadNumber { line: 4 },
+            "refused tol bad-number line 4\n",
+        ),
+        (
+            TolFault::Negative { line: 5 },
+            "refused tol negative line 5\n",
+        ),
+        (
+            TolFault::NoSurface { line: 1 },
+            "refused tol no-surface line 1\n",
+        ),
+        (TolFault::Twice { line: 2 }, "refused tol twice line 2\n"),
+        (
+            TolFault::TooMany { line: 33 },
+            "refused tol too-many line 33\n",
+        ),
+    ] {
+        let mut out = Line::new();
+        print_tol_fault(fault, &mut out);
+        assert_eq!(rt; out.as_str(), text);
+    }
+}
+
+#[test]
+fn heads_of_traces(rt: HostRuntime) {
+    let mut out = Line::new();
+    let setup = Setup {
+        lens: bulged_lens(),
+        media: ArrayVec::new(),
+        wave: Dec { mant: 5, exp: -1 },
+        res: 12,
+        width: Dec { mant: 1, exp: -3 },
+        toler: None,
+    };
+    print_trace_head(&setup, &mut out);
+    assert_eq!(rt;
+        out.as_str(),
+        "trace surfaces 2 wave 5e-1 res 12 width 1e-3\n"
+    );
+}
+
+fn span(lo: i64, hi: i64) -> Span
+    requires { lo ≤ℤ hi }
+    ensures { result ≡ record { lo = lo; hi = hi } }
+{
+    Span {
+        lo: i128::from(lo),
+        hi: i128::from(hi),
+    }
+}
+
+fn row(word: Word) -> Row
+    ensures { result.scale ≡ 6 }
+{
+    Row {
+        scale: 6,
+        word,
+        places: ArrayVec::new(),
+    }
+}
+
+#[test]
+fn rays(rt: HostRuntime) {
+    let rim2 = span(25000000, 25000000);
+    for (i, word, text) in [
+        (1u32, Word::Passes, "ray 1 passes scale 6\n"),
+        (2, Word::Vignetted(1), "ray 2 vignetted 1 scale 6\n"),
+        (3, Word::Outside(1), "ray 3 outside 1 scale 6\n"),
+        (4, Word::Tir(3), "ray 4 tir 3 scale 6\n"),
+        (
+            5,
+            Word::Undecided(1, span(24999970, 25000032), rim2),
+            "ray 5 undecided 1 scale 6 rho [24.999970,25.000032] rim2 [25.000000,25.000000]\n",
+        ),
+        (6, Word::Wide, "ray 6 wide scale 6\n"),
+        (
+            10000,
+            Word::Lost(2, Why::Range),
+            "ray 10000 lost 2 range scale 6\n",
+        ),
+    ] {
+        let mut out = Line::new();
+        print_ray(i, &row(word), &mut out);
+        assert_eq!(rt; out.as_str(), text);
+    }
+}
+
+#[test]
+fn places(rt: HostRuntime) {
+    let mut place = Place {
+        rho: span(8999862, 9000140),
+        x: span(-14, 14),
+        y: span(2999977, 3000023),
+        z: span(-1, 1),
+        path: span(4999985, 5000016),
+        heading: None,
+    };
+    let mut out = Line::new();
+    print_place(6, 2, &place, &mut out);
+    assert_eq!(rt;
+        out.as_str(),
+        "at 2 rho [8.999862,9.000140] x [-0.000014,0.000014] y [2.999977,3.000023] z [-0.000001,0.000001] path [4.999985,5.000016]\n"
+    );
+    place.heading = Some(Heading {
+        l: span(-1, 1),
+        m: span(599998, 600002),
+        n: span(799999, 800001),
+    });
+    let mut out = Line::new();
+    print_place(6, 1, &place, &mut out);
+    assert_eq!(rt;
+        out.as_str(),
+        "at 1 rho [8.999862,9.000140] x [-0.000014,0.000014] y [2.999977,3.000023] z [-0.000001,0.000001] path [4.999985,5.000016]\nto 1 L [-0.000001,0.000001] M [0.599998,0.600002] N [0.799999,0.800001]\n"
+    );
+}
+
+#[test]
+fn spots(rt: HostRuntime) {
+    let x = span(-14000000, 14000000);
+    let y = span(2999977000000, 3000023000000);
+    let msr = span(7199690399776, 7200309600196);
+    for (passes, statistics, text) in [
+        (0u32, None, "spot rays 9 passes 0\n"),
+        (
+            5,
+            Some(Statistics {
+                centroid: Step::Val((x, y)),
+                mean_square: Step::Val(msr),
+            }),
+            "spot rays 9 passes 5 centroid x [-0.000014000000,0.000014000000] y [2.999977000000,3.000023000000] msr [7.199690399776,7.200309600196]\n",
+        ),
+        (
+            1,
+            Some(Statistics {
+                centroid: Step::Val((x, y)),
+                mean_square: Step::Lost(Why::Range),
+            }),
+            "spot rays 9 passes 1 centroid x [-0.000014000000,0.000014000000] y [2.999977000000,3.000023000000] msr lost\n",
+        ),
+        (
+            2,
+            Some(Statistics {
+                centroid: Step::Lost(Why::Range),
+                mean_square: Step::Lost(Why::Range),
+            }),
+            "spot rays 9 passes 2 centroid lost\n",
+        ),
+    ] {
+        let mut out = Line::new();
+        let spot = Spot {
+            rays: 9,
+            passes,
+            statistics,
+        };
+        print_spot(&spot, &mut out);
+        assert_eq!(rt; out.as_str(), text);
+    }
+}
+
+#[test]
+fn totals(rt: HostRuntime) {
+    let mut totals = Totals::new();
+    totals.add(&row(Word::Vignetted(1)));
+    totals.add(&row(Word::Passes));
+    totals.add(&row(Word::Vignetted(2)));
+    totals.add(&row(Word::Lost(1, Why::Root)));
+    totals.add(&row(Word::Lost(1, Why::Zero)));
+    totals.add(&row(Word::Lost(2, Why::Range)));
+    let mut out = Line::new();
+    print_total(&totals, &mut out);
+    assert_eq!(rt;
+        out.as_str(),
+        "total rays 6 passes 1 vignetted 2 outside 0 tir 0 undecided 0 wide 0 lost 3\n"
+    );
 }
