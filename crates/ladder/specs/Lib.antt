@@ -1,0 +1,5 @@
+pub mod Benches
+pub mod Climbs
+pub mod Kinds
+pub mod Room
+pub mod Samples
