@@ -1,4 +1,6 @@
+mod Asks
 mod Books
+mod Counted
 mod Deliveries
 mod Faults
 mod Gathering
@@ -6,3 +8,6 @@ mod Lens
 mod Meaning
 mod Outcomes
 mod Parts
+mod RayLines
+mod Reaches
+mod Reports

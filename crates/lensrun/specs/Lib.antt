@@ -4,3 +4,4 @@ pub mod Due
 pub mod Gathered
 pub mod Numbered
 pub mod Promise
+pub mod Traces
