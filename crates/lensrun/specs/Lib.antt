@@ -6,3 +6,4 @@ pub mod Gathered
 pub mod Joined
 pub mod Numbered
 pub mod Promise
+pub mod Traces

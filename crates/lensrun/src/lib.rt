@@ -8,6 +8,7 @@ mod files;
 mod gather;
 mod joined;
 mod lines;
+mod rays;
 mod report;
 pub mod run;
 #[cfg(test)]
