@@ -1,5 +1,7 @@
 mod Answered
+mod Asks
 mod Books
+mod Counted
 mod Counts
 mod Deliveries
 mod Faults
@@ -9,5 +11,8 @@ mod Lens
 mod Meaning
 mod Outcomes
 mod Parts
+mod RayLines
+mod Reaches
 mod Reading
+mod Reports
 mod Stopping

@@ -7,3 +7,4 @@ pub mod Joined
 pub mod Numbered
 pub mod Promise
 pub mod Streams
+pub mod Traces

@@ -9,6 +9,7 @@ mod gather;
 mod joined;
 mod json;
 mod lines;
+mod rays;
 mod report;
 pub mod run;
 #[cfg(test)]

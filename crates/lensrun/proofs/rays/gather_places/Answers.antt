@@ -1,0 +1,30 @@
+use Rattle.std.proofs.Common.{◌≡◌, [], length, refl, rules, arith}
+use Rattle.std.proofs.lemmas.Option.{slice_get_read}
+use Rattle.std.proofs.lemmas.Result.{err_from_is_err_and}
+use Rattle.lensmodel.specs.Texts.Rows.{place_lines}
+use Rattle.lensrun.proofs.RayLines.{places-are, text_front, text_next, texts_end}
+use Rattle.lensrun.proofs.rays.gather_places.Goals as goal
+
+pub returns-in_err-gather_line-clause-front : goal.returns-in_err-gather_line-clause-front
+returns-in_err-gather_line-clause-front g c =
+    let p = err_from_is_err_and c.from_residual.result c.from_residual.ensures.1 in
+    let places = c.args.places.now in
+    let at = slice_get_read places (length places) c.loop-j.j c.index-places-j.result refl c.loop-j-test.true c.index-places-j.is in
+    rw p.1 (text_front (place_lines c.args.scale) c.args.first places _ (places-are c.args.scale c.args.first places)
+    _ _ _ _ [] c.args.piece.now.bytes _ c.loop-j.j _ at c.print_place.ensures c.loop-j.invariant.gathers c.in_err-gather_line.ensures.front)
+
+pub loop-j-preserved : goal.loop-j-preserved
+loop-j-preserved g c =
+    let places = c.args.places.now in
+    let at = slice_get_read places (length places) c.loop-j.j c.index-places-j.result refl c.loop-j-test.true c.index-places-j.is in
+    record {
+      gathers = text_next (place_lines c.args.scale) c.args.first places _ (places-are c.args.scale c.args.first places)
+          _ _ _ _ _ c.args.piece.now.bytes _ c.loop-j.j _ at c.print_place.ensures c.loop-j.invariant.gathers c.in_ok-gather_line.ensures.ok;
+      calm = search rules;
+    }
+
+pub returns-clause-ok : goal.returns-clause-ok
+returns-clause-ok g c =
+    let places = c.args.places.now in
+    let end : length places ≡ c.loop-j.j = omega (arith, c.loop-j-test.false, c.loop-j.auto.j-end) in
+    texts_end (place_lines c.args.scale) c.args.first places _ (places-are c.args.scale c.args.first places) _ _ _ c.args.piece.now.bytes c.loop-j.j end c.loop-j.invariant.gathers
