@@ -3,9 +3,8 @@ use Rattle.std.proofs.Common.{◌≡◌, ◌≢◌, ◌⊎◌, ℕ, ◌≤◌, L
 use Rattle.std.specs.Prelude.{Any}
 use Rattle.lensio.specs.Held.{Files}
 use Rattle.lensmodel.specs.Call.Answer.{Contents, Answer, answer, on_checked}
-use Rattle.lensmodel.specs.Call.Inputs.{Inputs, inputs_named, on_inputs}
+use Rattle.lensmodel.specs.Call.Inputs.{Inputs, AreInputs, inputs_named, on_inputs}
 use Rattle.lensmodel.specs.Call.TopCall.{Command, answer_of, command_answer, files_of, index, glass, read, trace, trace_json, first, seidel}
-use Rattle.lensmodel.specs.Call.Trace.{trace_text}
 use Rattle.lensmodel.specs.Setup.WellFormed.{IsWellFormed, IsInRange}
 use Rattle.lensmodel.specs.Texts.FaultText.{absent_line, usage_line}
 use Rattle.lensmodel.specs.declared.fault.CrossFault.{CrossFault}
@@ -19,7 +18,7 @@ use Rattle.lensrun.specs.Found.{IsFound, Gives, GivesNone, over_file}
 use Rattle.lensrun.specs.Joined.{MakesSetup, MakesNone, IsInputFault}
 use Rattle.lensrun.specs.Promise.{IsAnswered, IsDecided, IsDueOf, IsFaultOf, OfFiles, by_name, without}
 use Rattle.lensrun.specs.declared.due.Due.{Due}
-use Rattle.lensrun.specs.declared.due.Due.TheVariants.{Line, Glasses, Lens, Trace, Nothing}
+use Rattle.lensrun.specs.declared.due.Due.TheVariants.{Line, Glasses, Lens, Trace, TraceJson, Nothing}
 use Rattle.lensrun.specs.declared.due.Tracing.{Tracing}
 use Rattle.lensrun.proofs.Outcomes.{OfFiles-map}
 use Rattle.lensrun.proofs.Stopping.{look, look-found, given, stopped, no_report, no_write, is_nothing, fault_line}
@@ -52,6 +51,7 @@ no_trace-if (Line status text) h = tt
 no_trace-if (Glasses book) h = tt
 no_trace-if (Lens file) h = tt
 no_trace-if (Trace t) h = absurd (h refl)
+no_trace-if (TraceJson t) h = absurd (h refl)
 no_trace-if Nothing h = tt
 
 pub ready-if : (due : Due) → IsNoTrace due → IsReady due
@@ -59,6 +59,7 @@ ready-if (Line status text) h = tt
 ready-if (Glasses book) h = tt
 ready-if (Lens file) h = tt
 ready-if (Trace t) h = absurd h
+ready-if (TraceJson t) h = absurd h
 ready-if Nothing h = tt
 
 -- words that fit no command
@@ -142,37 +143,52 @@ module _ {V F : Type 0} (held : Option Files) (c : Command) (file : FileKind) (n
     nothing = is_nothing held file name cause reading due none;
   }
 
--- ---- a trace
-module _ (held : Option Files) (i : Inputs) where
-  pub trace_given : (t : Tracing) → OfFiles held (λ files. MakesSetup files i t.setup t.job) → IsDueOf held (Some (trace i)) (Trace t)
+-- ---- a command that traces
+-- for want of memory
+pub makes_nothing : (held : Option Files) (i : Inputs) → MakesNone held i Nothing
+makes_nothing held i = record {
+  outcome = λ decided. absurd decided;
+  read_fault = λ e. absurd (cc e);
+  no_report = λ e. cc;
+  no_write = λ e. cc;
+  nothing = λ e. refl;
+}
+
+module _ (held : Option Files) (i : Inputs) (c : Command) (text : Setup → Job → List ℕ) (report : Tracing → Due)
+    (over : (files : Contents) → answer_of files c ≡ on_inputs files i (λ s job. answer Done (text s job)))
+    (named : files_of c ≡ inputs_named i)
+    (is : (t : Tracing) → due_answer (report t) ≡ answer Done (text t.setup t.job))
+    (rests : (files : Contents) (t : Tracing) → AreInputs files i t.setup t.job → RestsOn files (Some c) (report t))
+    (rests-none : (files : Contents) (due : Due) → (due_answer due).status ≢ Done → RestsOn files (Some c) due) where
+  pub trace_given : (t : Tracing) → OfFiles held (λ files. MakesSetup files i t.setup t.job) → IsDueOf held (Some c) (report t)
   unfolding IsPlain
   trace_given t made =
-      plain_due held (Some (trace i)) (Trace t) tt
-      (OfFiles-map held (λ files. MakesSetup files i t.setup t.job) (λ files. IsAnswered files (Some (trace i)) (Trace t))
+      plain_due held (Some c) (report t) (subst (λ (x : Answer). IsPlain x.status) (sym (is t)) tt)
+      (OfFiles-map held (λ files. MakesSetup files i t.setup t.job) (λ files. IsAnswered files (Some c) (report t))
         (λ files m. record {
-          answer = sym (m.answer (λ s job. answer Done (trace_text s job)));
-          rests = λ done. (t, refl, m.inputs);
+          answer = is t ∙ sym (over files ∙ m.answer (λ s job. answer Done (text s job)));
+          rests = rests files t m.inputs;
         })
         made)
 
-  fault_of : (text : List ℕ) (f : FileKind × List ℕ) → IsInputFault held i f.0 text → IsFaultOf held (trace i) f.0 text
-  fault_of text f h = record {
+  fault_of : (line : List ℕ) (f : FileKind × List ℕ) → IsInputFault held i f.0 line → IsFaultOf held c f.0 line
+  fault_of line f h = record {
     line = h.line;
     reached = OfFiles-map held (λ files. (go_on : Setup → Job → Answer) → on_inputs (without f.0 files) i go_on ≡ answer Absent (absent_line f.0))
-        (λ files. answer_of (without f.0 files) (trace i) ≡ answer Absent (absent_line f.0))
-        (λ files k. k (λ s job. answer Done (trace_text s job))) h.reached;
+        (λ files. answer_of (without f.0 files) c ≡ answer Absent (absent_line f.0))
+        (λ files k. over (without f.0 files) ∙ k (λ s job. answer Done (text s job))) h.reached;
   }
 
-  pub trace_none : (due : Due) → MakesNone held i due → IsDueOf held (Some (trace i)) due
+  pub trace_none : (due : Due) → MakesNone held i due → IsDueOf held (Some c) due
   trace_none due none = record {
     outcome = λ decided.
-        OfFiles-map held (λ files. (go_on : Setup → Job → Answer) → due_answer due ≡ on_inputs files i go_on) (λ files. IsAnswered files (Some (trace i)) due)
+        OfFiles-map held (λ files. (go_on : Setup → Job → Answer) → due_answer due ≡ on_inputs files i go_on) (λ files. IsAnswered files (Some c) due)
         (λ files k. record {
-          answer = k (λ s job. answer Done (trace_text s job));
-          rests = λ done. absurd (none.no_report done);
+          answer = k (λ s job. answer Done (text s job)) ∙ sym (over files);
+          rests = rests-none files due none.no_report;
         })
         (none.outcome decided);
-    read_fault = λ e. let a = none.read_fault e in (a.0, a.1, a.2, a.3, fault_of (due_answer due).text a.1 a.4);
+    read_fault = λ e. let a = none.read_fault e in rw named (a.0, a.1, a.2, a.3, fault_of (due_answer due).text a.1 a.4);
     no_write = none.no_write;
     nothing = none.nothing;
   }

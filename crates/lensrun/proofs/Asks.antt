@@ -10,6 +10,7 @@ use Rattle.std.proofs.lemmas.List.Sums.{sum_by-cons, sum_by_more, sum_by_more_le
 use Rattle.std.proofs.lemmas.Option.{slice_get-map, slice_get_within, get_or_from_slice_get}
 use Rattle.std.proofs.Math.Seq.{take-suc, take-append_seam}
 use Rattle.lensmodel.specs.Call.Trace.{ask_lines, asks_lines, rows_of, traced, SpotsHold}
+use Rattle.lensmodel.specs.Call.TraceJson.{json_lines}
 use Rattle.lensmodel.specs.Claims.RowClaims.{RowHolds}
 use Rattle.lensmodel.specs.Claims.SpotClaims.{IsTraced, SpotHolds, Traced}
 use Rattle.lensmodel.specs.Rows.Ray.{row}
@@ -17,6 +18,7 @@ use Rattle.lensmodel.specs.Setup.Launches.{launches, count, fan, grid, numbers_f
 use Rattle.lensmodel.specs.Setup.Ratio.{Ratio}
 use Rattle.lensmodel.specs.Setup.Values.{image}
 use Rattle.lensmodel.specs.Setup.WellFormed.{IsWellFormed}
+use Rattle.lensmodel.specs.Texts.JsonRows.{json_line}
 use Rattle.lensmodel.specs.declared.job.Ask.{Ask}
 use Rattle.lensmodel.specs.declared.job.Ask.TheVariants.{Ray, Aim, Fan, Spot, First, Seidel}
 use Rattle.lensmodel.specs.declared.job.Job.{Job}
@@ -26,6 +28,7 @@ use Rattle.lensmodel.specs.declared.row.Row.{Row}
 use Rattle.lensmodel.specs.declared.setup.Setup.{Setup}
 use Rattle.lensio.specs.Taken.{TakesFront}
 use Rattle.lensrun.specs.Gathered.{Gathers}
+use Rattle.lensrun.specs.Numbered.{numbered}
 use Rattle.lensrun.proofs.Gathering.{lines-front, lines-end}
 use Rattle.lensrun.proofs.Reaches.{row-is}
 use Rattle.spotfan.specs.Chains.{spot_holds}
@@ -85,24 +88,19 @@ module _ (s : Setup) (a : Ask) where
   pub hold-end : (k : ℕ) → count a ≡ k → All (λ ray. RowHolds s ray (row s ray)) (take k (launches a)) → All (λ ray. RowHolds s ray (row s ray)) (launches a)
   hold-end k e h = subst (All (λ ray. RowHolds s ray (row s ray))) (take_all k (launches a) (omega (arith, count-is a, e))) h
 
--- ---- the lines of a job
-pub ask_texts : Setup → ℕ → List Ask → List (List ℕ)
-ask_texts s i [] = []
-ask_texts s i (a ∷ more) = ask_lines s i a ∷ ask_texts s (i + length (launches a)) more
+-- ---- the texts of the lines of a job, by the number of their first rays
+pub ask_texts : (ℕ → Ask → List ℕ) → ℕ → List Ask → List (List ℕ)
+ask_texts text i [] = []
+ask_texts text i (a ∷ more) = text i a ∷ ask_texts text (i + length (launches a)) more
 
-module _ (s : Setup) where
-  pub asks-are : (i : ℕ) (asks : List Ask) → concat (ask_texts s i asks) ≡ asks_lines s i asks
-  unfolding ask_texts
-  asks-are i [] = refl
-  asks-are i (a ∷ more) = ap (λ l. ask_lines s i a ++ l) (asks-are (i + length (launches a)) more)
-
-  pub length-texts : (i : ℕ) (asks : List Ask) → length (ask_texts s i asks) ≡ length asks
+module _ (text : ℕ → Ask → List ℕ) where
+  pub length-texts : (i : ℕ) (asks : List Ask) → length (ask_texts text i asks) ≡ length asks
   unfolding ask_texts
   length-texts i [] = refl
   length-texts i (a ∷ more) = ap suc (length-texts (i + length (launches a)) more)
 
   pub text-at : (i k n : ℕ) (asks : List Ask) (a : Ask) → slice_get asks k ≡ Some a → n ≡ i + job_count (take k asks)
-      → slice_get (ask_texts s i asks) k ≡ Some (ask_lines s n a)
+      → slice_get (ask_texts text i asks) k ≡ Some (text n a)
   unfolding ask_texts
   text-at i k n [] a at e = absurd (cc at)
   text-at i zero n (b ∷ more) a at e = let same : n ≡ i = omega (arith, e) in cc (at, same)
@@ -111,13 +109,21 @@ module _ (s : Setup) where
       let t : job_count (take (suc k) (b ∷ more)) ≡ count b + job_count (take k more) = sum_by-cons count b (take k more) in
       text-at (i + length (launches b)) k n more a at (omega (arith, e, c, t))
 
-module _ (s : Setup) (asks : List Ask) (a b : Option (List ℕ)) (p t : List ℕ) (i : ℕ) (g : Gathers a b p (t ++ concat (take i (ask_texts s 1 asks)))) where
-  pub job_front : (c : Option (List ℕ)) (line : List ℕ) → slice_get (ask_texts s 1 asks) i ≡ Some line → TakesFront b c (p ++ line)
-      → TakesFront a c (t ++ asks_lines s 1 asks)
-  job_front c line at h = subst (λ w. TakesFront a c (t ++ w)) (asks-are s 1 asks) (lines-front a b c p t (ask_texts s 1 asks) i line at g h)
+  module _ (asks : List Ask) (whole : List ℕ) (are : concat (ask_texts text 1 asks) ≡ whole) (a b : Option (List ℕ)) (p t : List ℕ) (i : ℕ)
+      (g : Gathers a b p (t ++ concat (take i (ask_texts text 1 asks)))) where
+    pub job_front : (c : Option (List ℕ)) (line : List ℕ) → slice_get (ask_texts text 1 asks) i ≡ Some line → TakesFront b c (p ++ line)
+        → TakesFront a c (t ++ whole)
+    job_front c line at h = subst (λ w. TakesFront a c (t ++ w)) are (lines-front a b c p t (ask_texts text 1 asks) i line at g h)
 
-  pub job_end : length asks ≡ i → Gathers a b p (t ++ asks_lines s 1 asks)
-  job_end e = subst (λ w. Gathers a b p (t ++ w)) (asks-are s 1 asks) (lines-end a b p t (ask_texts s 1 asks) i (length-texts s 1 asks ∙ e) g)
+    pub job_end : length asks ≡ i → Gathers a b p (t ++ whole)
+    job_end e = subst (λ w. Gathers a b p (t ++ w)) are (lines-end a b p t (ask_texts text 1 asks) i (length-texts 1 asks ∙ e) g)
+
+module _ (s : Setup) where
+  -- in lines
+  pub asks-are : (i : ℕ) (asks : List Ask) → concat (ask_texts (ask_lines s) i asks) ≡ asks_lines s i asks
+  unfolding ask_texts
+  asks-are i [] = refl
+  asks-are i (a ∷ more) = ap (λ l. ask_lines s i a ++ l) (asks-are (i + length (launches a)) more)
 
 pub job_count-next : (asks : List Ask) (k : ℕ) (a : Ask) → slice_get asks k ≡ Some a → job_count (take (k + 1) asks) ≡ job_count (take k asks) + count a
 job_count-next asks k a at =
@@ -137,6 +143,27 @@ launches-next asks k a at =
 map-append : {X Y : Type 0} (f : X → Y) (xs ys : List X) → map f (xs ++ ys) ≡ map f xs ++ map f ys
 map-append f [] ys = refl
 map-append f (x ∷ xs) ys = ap (λ l. f x ∷ l) (map-append f xs ys)
+
+-- in JSON
+json_lines-append : (i : ℕ) (xs ys : List Row) → json_lines i (xs ++ ys) ≡ json_lines i xs ++ json_lines (i + length xs) ys
+json_lines-append i [] ys = let e : i + 0 ≡ i = omega arith in rw e refl
+json_lines-append i (x ∷ xs) ys =
+    let e : i + suc (length xs) ≡ suc i + length xs = omega arith in
+    rw e (ap (λ l. json_line i x ++ l) (json_lines-append (suc i) xs ys) ∙ sym (append_assoc (json_line i x) (json_lines (suc i) xs) (json_lines (suc i + length xs) ys)))
+
+pub jsons-are : (s : Setup) (i : ℕ) (asks : List Ask) → concat (ask_texts (λ i a. json_lines i (rows_of s a)) i asks) ≡ json_lines i (map (row s) (job_launches asks))
+unfolding ask_texts
+jsons-are s i [] = refl
+jsons-are s i (a ∷ more) =
+    ap (λ l. json_lines i (rows_of s a) ++ l) (jsons-are s (i + length (launches a)) more)
+    ∙ ap (λ n. json_lines i (rows_of s a) ++ json_lines (i + n) (map (row s) (job_launches more))) (sym (length-map (launches a) (row s)))
+    ∙ sym (json_lines-append i (rows_of s a) (map (row s) (job_launches more)))
+    ∙ ap (json_lines i) (sym (map-append (row s) (launches a) (job_launches more)))
+
+-- the JSON of rows as a list of lines
+pub json_rows-are : (i : ℕ) (rows : List Row) → concat (numbered json_line i rows) ≡ json_lines i rows
+json_rows-are i [] = refl
+json_rows-are i (r ∷ more) = ap (λ l. json_line i r ++ l) (json_rows-are (suc i) more)
 
 pub job_rows-next : (s : Setup) (asks : List Ask) (k : ℕ) (a : Ask) → slice_get asks k ≡ Some a
     → map (row s) (job_launches (take k asks)) ++ rows_of s a ≡ map (row s) (job_launches (take (k + 1) asks))

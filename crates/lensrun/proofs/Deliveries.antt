@@ -9,20 +9,60 @@ use Rattle.lensmodel.specs.Setup.Values.{image}
 use Rattle.lensmodel.specs.declared.status.Status.{Status}
 use Rattle.lensmodel.specs.declared.status.Status.TheVariants.{Done, Usage, Refused, Absent, ReadFault, TooLong, WriteFault, Memory}
 use Rattle.lensrun.specs.Built.{command_of, outcome}
-use Rattle.lensrun.specs.Due.{due_answer, preparations, Delivers, DueHolds, IsNoTrace, RestsOn}
+use Rattle.lensrun.specs.Due.{due_answer, preparations, Delivers, DueHolds, IsNoTrace, IsStreamed, RestsOn}
 use Rattle.lensrun.specs.Found.{IsCounted}
-use Rattle.lensrun.specs.Promise.{IsAnswered, IsComplete, IsDecided, IsDue, IsDueOf, IsReadFaultLine, MakesNoReport, OfFiles, Prepares, PreparesLens, WritesDueFront, WritesReadFault, WritesReadFaultFront, by_name}
+use Rattle.lensrun.specs.Promise.{BeginsNoReport, IsAnswered, IsComplete, IsDecided, IsDue, IsDueOf, IsReadFaultLine, IsStreamedReport, OfFiles, Prepares, PreparesLens, WritesDueFront, WritesReadFault, WritesReadFaultFront, WritesWanting, by_name}
 use Rattle.lensrun.specs.declared.due.Due.{Due}
-use Rattle.lensrun.specs.declared.due.Due.TheVariants.{Line, Glasses, Lens, Trace, Nothing}
+use Rattle.lensrun.specs.declared.due.Due.TheVariants.{Line, Glasses, Lens, Trace, TraceJson, Nothing}
 use Rattle.lensrun.specs.declared.due.Tracing.{Tracing}
 use Rattle.lensrun.proofs.Meaning.{outcome-is, outcome-means}
-use Rattle.lensrun.proofs.Outcomes.{OfFiles-map}
+use Rattle.lensrun.proofs.Outcomes.{OfFiles-map, OfFiles-of}
+
+-- ---- what is due is a trace, or isn't
+IsTrace : Due → Type 0
+IsTrace due = (IsNoTrace due → ⊥) × ((due_answer due).status ≡ Done)
+
+trace-or-none : (due : Due) → IsTrace due ⊎ (preparations due ≡ 0)
+unfolding IsTrace
+trace-or-none (Line status text) = inr refl
+trace-or-none (Glasses book) = inr refl
+trace-or-none (Lens file) = inr refl
+trace-or-none (Trace t) = inl (λ no. no, refl)
+trace-or-none (TraceJson t) = inl (λ no. no, refl)
+trace-or-none Nothing = inr refl
+
+-- rows in JSON are a report
+streamed-done : (due : Due) → IsStreamed due → (due_answer due).status ≡ Done
+streamed-done (Line status text) s = absurd s
+streamed-done (Glasses book) s = absurd s
+streamed-done (Lens file) s = absurd s
+streamed-done (Trace t) s = absurd s
+streamed-done (TraceJson t) s = refl
+streamed-done Nothing s = absurd s
+
+streamed-unlike : (due : Due) → IsStreamed due → IsNoTrace due → ⊥
+streamed-unlike (TraceJson t) s no = no
+streamed-unlike (Trace t) s no = no
+streamed-unlike (Line status text) s no = s
+streamed-unlike (Glasses book) s no = s
+streamed-unlike (Lens file) s no = s
+streamed-unlike Nothing s no = s
+
+streamed-command : (files : Contents) (c : Option Command) (due : Due) → IsStreamed due → IsAnswered files c due → IsStreamedReport c
+streamed-command files None due s a = streamed-unlike due s a.rests
+streamed-command files (Some (index i)) due s a = streamed-unlike due s a.rests
+streamed-command files (Some (glass i)) due s a = streamed-unlike due s a.rests
+streamed-command files (Some (read i)) due s a = streamed-unlike due s a.rests
+streamed-command files (Some (trace i)) due s a = let r = a.rests (streamed-done due s) in absurd (subst IsStreamed r.1 s)
+streamed-command files (Some (trace_json i)) due s a = tt
+streamed-command files (Some (first i)) due s a = absurd (streamed-unlike due s a.rests)
+streamed-command files (Some (seidel i)) due s a = absurd (streamed-unlike due s a.rests)
 
 module _ (held : Option Files) (said : List (List ℕ)) (due : Due) (ended : Status) (old new : Option (List ℕ)) (before now : ℕ)
-    (h : IsDueOf held (command_of said) due) (d : Delivers (due_answer due) ended old new before now) where
-  -- the call ended as it was due, unless the sink failed
-  pub ended-as_due : ended ≢ WriteFault → ended ≡ (due_answer due).status
-  ended-as_due sound = elim d [ | inl done ↦ done.0 | inr failed ↦ absurd (sound failed.0) ]
+    (h : IsDueOf held (command_of said) due) (d : Delivers due ended old new before now) where
+  -- the call ended as it was due, unless the sink failed or memory for a line was wanting
+  ended-as_due : ended ≢ WriteFault → ended ≢ Memory → ended ≡ (due_answer due).status
+  ended-as_due sound enough = elim d [ | inl done ↦ done.0 | inr (inl failed) ↦ absurd (sound failed.0) | inr (inr wanting) ↦ absurd (enough wanting.0) ]
 
   due_if_taken : (files : Contents) → (ended ≡ Done → DueHolds due) → ended ≡ (due_answer due).status → Takes old new (due_answer due).text
       → IsAnswered files (command_of said) due → IsDue said ended old new files
@@ -40,27 +80,28 @@ module _ (held : Option Files) (said : List (List ℕ)) (due : Due) (ended : Sta
       | inl done ↦
           OfFiles-map held (λ files. IsAnswered files (command_of said) due) (IsDue said ended old new)
           (λ files is. due_if_taken files holds done.0 done.1 is) (h.outcome (subst IsDecided done.0 decided))
-      | inr failed ↦ absurd (subst IsDecided failed.0 decided)
+      | inr (inl failed) ↦ absurd (subst IsDecided failed.0 decided)
+      | inr (inr wanting) ↦ absurd (subst IsDecided wanting.0 decided)
     ]
+
+  -- a front of the outcome
+  front_if_decided : TakesFront old new (due_answer due).text → IsDecided (due_answer due).status → WritesDueFront held said old new
+  front_if_decided t decided =
+      OfFiles-map held (λ files. IsAnswered files (command_of said) due) (λ files. TakesFront old new (outcome files said).text)
+      (λ files is. subst (λ (x : Answer). TakesFront old new x.text) (is.answer ∙ outcome-is files said) t) (h.outcome decided)
 
   -- ---- a front of what was due, to a sink that failed
   module _ (P : Type 0) (cause : (due_answer due).status ≡ ReadFault → P) (silent : due ≡ Nothing → ended ≡ Memory) where
     WritesFront : Type 0
     WritesFront = WritesDueFront held said old new ⊎ (P × WritesReadFaultFront held said old new)
 
-    front_if_decided : TakesFront old new (due_answer due).text → IsDecided (due_answer due).status → WritesFront
-    unfolding WritesFront
-    front_if_decided t decided =
-        inl (OfFiles-map held (λ files. IsAnswered files (command_of said) due) (λ files. TakesFront old new (outcome files said).text)
-        (λ files is. subst (λ (x : Answer). TakesFront old new x.text) (is.answer ∙ outcome-is files said) t) (h.outcome decided))
-
     front_by : (s : Status) → (due_answer due).status ≡ s → (s ≢ Memory) → TakesFront old new (due_answer due).text → WritesFront
     unfolding WritesFront
-    front_by Done e unheld t = front_if_decided t (subst IsDecided (sym e) tt)
-    front_by Usage e unheld t = front_if_decided t (subst IsDecided (sym e) tt)
-    front_by Refused e unheld t = front_if_decided t (subst IsDecided (sym e) tt)
-    front_by Absent e unheld t = front_if_decided t (subst IsDecided (sym e) tt)
-    front_by TooLong e unheld t = front_if_decided t (subst IsDecided (sym e) tt)
+    front_by Done e unheld t = inl (front_if_decided t (subst IsDecided (sym e) tt))
+    front_by Usage e unheld t = inl (front_if_decided t (subst IsDecided (sym e) tt))
+    front_by Refused e unheld t = inl (front_if_decided t (subst IsDecided (sym e) tt))
+    front_by Absent e unheld t = inl (front_if_decided t (subst IsDecided (sym e) tt))
+    front_by TooLong e unheld t = inl (front_if_decided t (subst IsDecided (sym e) tt))
     front_by ReadFault e unheld t = inr (cause e, ((due_answer due).text, h.read_fault e, t))
     front_by WriteFault e unheld t = absurd (h.no_write e)
     front_by Memory e unheld t = absurd (unheld refl)
@@ -69,87 +110,103 @@ module _ (held : Option Files) (said : List (List ℕ)) (due : Due) (ended : Sta
     unfolding WritesFront
     front_if_delivered failed = elim d [
         | inl done ↦ absurd (h.no_write (sym done.0 ∙ failed))
-        | inr front ↦ front_by (due_answer due).status refl (λ e. cc (sym failed ∙ silent (h.nothing e))) front.2
+        | inr (inl front) ↦ front_by (due_answer due).status refl (λ e. cc (sym failed ∙ silent (h.nothing e))) front.2
+        | inr (inr wanting) ↦ absurd (cc (sym failed ∙ wanting.0))
       ]
 
   -- the line of a failed read
   pub read_fault_if_delivered : ended ≡ ReadFault → WritesReadFault held said old new
   read_fault_if_delivered is = elim d [
       | inl done ↦ ((due_answer due).text, h.read_fault (sym done.0 ∙ is), done.1)
-      | inr failed ↦ absurd (cc (sym is ∙ failed.0))
+      | inr (inl failed) ↦ absurd (cc (sym is ∙ failed.0))
+      | inr (inr wanting) ↦ absurd (cc (sym is ∙ wanting.0))
     ]
 
-  -- nothing for want of memory
-  pub silent_if_delivered : ended ≡ Memory → Takes old new []
+  -- the command of rows in JSON
+  streamed-report : IsStreamed due → IsStreamedReport (command_of said)
+  streamed-report s =
+      OfFiles-of held (IsStreamedReport (command_of said))
+      (OfFiles-map held (λ files. IsAnswered files (command_of said) due) (λ files. IsStreamedReport (command_of said))
+      (λ files a. streamed-command files (command_of said) due s a) (h.outcome (subst IsDecided (sym (streamed-done due s)) tt)))
+
+  -- nothing for want of memory, or a front of rows in JSON
+  pub silent_if_delivered : ended ≡ Memory → WritesWanting held said old new
   silent_if_delivered is = elim d [
-      | inl done ↦ subst (λ (x : Due). Takes old new (due_answer x).text) (h.nothing (sym done.0 ∙ is)) done.1
-      | inr failed ↦ absurd (cc (sym is ∙ failed.0))
+      | inl done ↦ inl (subst (λ (x : Due). Takes old new (due_answer x).text) (h.nothing (sym done.0 ∙ is)) done.1)
+      | inr (inl failed) ↦ absurd (cc (sym is ∙ failed.0))
+      | inr (inr wanting) ↦
+          inr (streamed-report wanting.1, front_if_decided wanting.2 (subst IsDecided (sym (streamed-done due wanting.1)) tt))
     ]
 
   -- ---- the surfaces that were prepared
   module _ (steps steps' : ℕ) (risen : steps' ≡ steps + preparations due) where
-    pub no_report-no_steps : MakesNoReport ended → steps' ≡ steps
-    no_report-no_steps none = by due refl
-      where
-        by : (x : Due) → due ≡ x → steps' ≡ steps
-        by (Line status text) e = risen ∙ ap (λ y. steps + preparations y) e ∙ omega arith
-        by (Glasses book) e = risen ∙ ap (λ y. steps + preparations y) e ∙ omega arith
-        by (Lens file) e = risen ∙ ap (λ y. steps + preparations y) e ∙ omega arith
-        by Nothing e = risen ∙ ap (λ y. steps + preparations y) e ∙ omega arith
-        by (Trace t) e = elim d [
-            | inl done ↦ absurd (subst MakesNoReport (done.0 ∙ ap (λ (y : Due). (due_answer y).status) e) none)
-            | inr failed ↦ absurd (subst MakesNoReport failed.0 none)
-          ]
+    unprepared : preparations due ≡ 0 → steps' ≡ steps
+    unprepared none = omega (arith, risen, none)
 
-    prepares_by : (t : Tracing) → due ≡ Trace t → (files : Contents) (c : Option Command) → IsAnswered files c due → PreparesLens files c steps steps'
-    prepares_by t e files None a = absurd (subst IsNoTrace e a.rests)
-    prepares_by t e files (Some (index i)) a = absurd (subst IsNoTrace e a.rests)
-    prepares_by t e files (Some (glass i)) a = absurd (subst IsNoTrace e a.rests)
-    prepares_by t e files (Some (read i)) a = absurd (subst IsNoTrace e a.rests)
-    prepares_by t e files (Some (trace_json i)) a = absurd (subst IsNoTrace e a.rests)
-    prepares_by t e files (Some (first i)) a = absurd (subst IsNoTrace e a.rests)
-    prepares_by t e files (Some (seidel i)) a = absurd (subst IsNoTrace e a.rests)
-    prepares_by t e files (Some (trace i)) a =
-        let r = a.rests (ap (λ (y : Due). (due_answer y).status) e) in
-        (r.0.setup, r.0.job, r.2, risen ∙ ap (λ y. steps + preparations y) r.1)
+    pub no_report-no_steps : BeginsNoReport (command_of said) ended → steps' ≡ steps
+    unfolding IsTrace
+    no_report-no_steps none = elim (trace-or-none due) [
+        | inl is ↦ elim d [
+            | inl done ↦ absurd (subst (BeginsNoReport (command_of said)) (done.0 ∙ is.1) none)
+            | inr (inl failed) ↦ absurd (subst (BeginsNoReport (command_of said)) failed.0 none)
+            | inr (inr wanting) ↦ absurd (subst (BeginsNoReport (command_of said)) wanting.0 none (streamed-report wanting.1))
+          ]
+        | inr no ↦ unprepared no
+      ]
+
+    prepares_by : (files : Contents) (c : Option Command) → IsTrace due → IsAnswered files c due → PreparesLens files c steps steps'
+    unfolding IsTrace
+    prepares_by files None is a = is.0 a.rests
+    prepares_by files (Some (index i)) is a = is.0 a.rests
+    prepares_by files (Some (glass i)) is a = is.0 a.rests
+    prepares_by files (Some (read i)) is a = is.0 a.rests
+    prepares_by files (Some (first i)) is a = is.0 a.rests
+    prepares_by files (Some (seidel i)) is a = is.0 a.rests
+    prepares_by files (Some (trace i)) is a = let r = a.rests is.1 in (r.0.setup, r.0.job, r.2, risen ∙ ap (λ y. steps + preparations y) r.1)
+    prepares_by files (Some (trace_json i)) is a = let r = a.rests is.1 in (r.0.setup, r.0.job, r.2, risen ∙ ap (λ y. steps + preparations y) r.1)
 
     pub prepares : Prepares held said steps steps'
-    prepares = by due refl
-      where
-        by : (x : Due) → due ≡ x → Prepares held said steps steps'
-        by (Line status text) e = inl (risen ∙ ap (λ y. steps + preparations y) e ∙ omega arith)
-        by (Glasses book) e = inl (risen ∙ ap (λ y. steps + preparations y) e ∙ omega arith)
-        by (Lens file) e = inl (risen ∙ ap (λ y. steps + preparations y) e ∙ omega arith)
-        by Nothing e = inl (risen ∙ ap (λ y. steps + preparations y) e ∙ omega arith)
-        by (Trace t) e =
+    unfolding IsTrace
+    prepares = elim (trace-or-none due) [
+        | inl is ↦
             inr (OfFiles-map held (λ files. IsAnswered files (command_of said) due) (λ files. PreparesLens files (command_of said) steps steps')
-            (λ files a. prepares_by t e files (command_of said) a)
-            (h.outcome (subst IsDecided (sym (ap (λ (y : Due). (due_answer y).status) e)) tt)))
+            (λ files a. prepares_by files (command_of said) is a) (h.outcome (subst IsDecided (sym is.1) tt)))
+        | inr no ↦ inl (unprepared no)
+      ]
 
 -- ---- what the outside counted
 module _ (held : Option Files) (said : List (List ℕ)) (due : Due) (ended : Status) (old new : Option (List ℕ)) (before now : ℕ)
-    (h : IsDueOf held (command_of said) due) (d : Delivers (due_answer due) ended old new before now)
+    (h : IsDueOf held (command_of said) due) (d : Delivers due ended old new before now)
     (n f f' a a' g g' : ℕ) (counts : IsCounted (Some (due_answer due).status) n f f' a a' g g') where
-  as_due : ended ≢ WriteFault → ended ≡ (due_answer due).status
-  as_due = ended-as_due held said due ended old new before now h d
-
-  pub absent-counted : ended ≡ Absent → Rose a a'
-  absent-counted e = counts.absent (ap Some (sym (as_due (λ w. cc (sym e ∙ w))) ∙ e))
-
-  pub read_fault-counted : ended ≡ ReadFault → Rose f f'
-  read_fault-counted e = counts.read_fault (ap Some (sym (as_due (λ w. cc (sym e ∙ w))) ∙ e))
-
-  pub too_long-counted : ended ≡ TooLong → RoseBy 16_777_217 g g'
-  too_long-counted e = counts.too_long (ap Some (sym (as_due (λ w. cc (sym e ∙ w))) ∙ e))
-
   some-same : {s t : Status} → Some s ≡ Some t → s ≡ t
   some-same is = cc is
 
+  -- an end that the sink and memory don't make
+  as_due : (s : Status) → s ≢ WriteFault → s ≢ Memory → ended ≡ s → (due_answer due).status ≡ s
+  as_due s sound enough e = sym (ended-as_due held said due ended old new before now h d (λ w. sound (sym e ∙ w)) (λ m. enough (sym e ∙ m))) ∙ e
+
+  pub absent-counted : ended ≡ Absent → Rose a a'
+  absent-counted e = counts.absent (ap Some (as_due Absent (λ w. cc) (λ m. cc) e))
+
+  pub read_fault-counted : ended ≡ ReadFault → Rose f f'
+  read_fault-counted e = counts.read_fault (ap Some (as_due ReadFault (λ w. cc) (λ m. cc) e))
+
+  pub too_long-counted : ended ≡ TooLong → RoseBy 16_777_217 g g'
+  too_long-counted e = counts.too_long (ap Some (as_due TooLong (λ w. cc) (λ m. cc) e))
+
+  -- what is due in place of which memory was wanting is a report
+  unlike : (s : Status) → s ≢ Done → ended ≢ s → ended ≢ WriteFault → (due_answer due).status ≢ s
+  unlike s other not sound e = elim d [
+      | inl done ↦ not (done.0 ∙ e)
+      | inr (inl failed) ↦ sound failed.0
+      | inr (inr wanting) ↦ other (sym e ∙ streamed-done due wanting.1)
+    ]
+
   pub calm-counted : ended ≢ ReadFault → ended ≢ WriteFault → f' ≡ f
-  calm-counted not sound = counts.calm (λ e. not (as_due sound ∙ some-same e))
+  calm-counted not sound = counts.calm (λ e. unlike ReadFault (λ o. cc) not sound (some-same e))
 
   pub found-counted : ended ≢ Absent → ended ≢ WriteFault → a' ≡ a
-  found-counted not sound = counts.found (λ e. not (as_due sound ∙ some-same e))
+  found-counted not sound = counts.found (λ e. unlike Absent (λ o. cc) not sound (some-same e))
 
   is_too_long : (s : Status) → (s ≡ TooLong) ⊎ (s ≢ TooLong)
   is_too_long TooLong = inl refl
@@ -163,25 +220,23 @@ module _ (held : Option Files) (said : List (List ℕ)) (due : Due) (ended : Sta
 
   pub too_long-where : g + n * 16_777_216 < g' → (ended ≡ TooLong) ⊎ (ended ≡ WriteFault)
   too_long-where more = elim (is_too_long (due_answer due).status) [
-      | inl is ↦ elim d [ | inl done ↦ inl (done.0 ∙ is) | inr failed ↦ inr failed.0 ]
+      | inl is ↦ elim d [
+          | inl done ↦ inl (done.0 ∙ is)
+          | inr (inl failed) ↦ inr failed.0
+          | inr (inr wanting) ↦ absurd (cc (sym is ∙ streamed-done due wanting.1))
+        ]
       | inr not ↦ let w = counts.within (λ e. not (some-same e)) in absurd (omega (arith, more, w))
     ]
 
   -- a report that is due is written where nothing of the outside fails
-  complete_by : (files : Files) → held ≡ Some files → ¬ Rose f f' → ¬ Rose before now → (outcome (by_name files) said).status ≡ Done
-      → (s : Status) → (due_answer due).status ≡ s → (ended ≡ Done) ⊎ (ended ≡ Memory)
-  complete_by files told calm sound done s e = elim d [
-      | inr failed ↦ absurd (sound failed.1)
-      | inl ends ↦ by s e
-    ]
+  complete_by : (files : Files) → held ≡ Some files → ¬ Rose f f' → (outcome (by_name files) said).status ≡ Done → ended ≡ (due_answer due).status
+      → (ended ≡ Done) ⊎ (ended ≡ Memory)
+  complete_by files told calm done sound-end = by (due_answer due).status refl
     where
       ends-done : IsDecided (due_answer due).status → (due_answer due).status ≡ Done
       ends-done decided =
           let a : IsAnswered (by_name files) (command_of said) due = subst (λ (o : Option Files). OfFiles o (λ files. IsAnswered files (command_of said) due)) told (h.outcome decided) in
           ap (λ (x : Answer). x.status) (a.answer ∙ outcome-is (by_name files) said) ∙ done
-
-      sound-end : ended ≡ (due_answer due).status
-      sound-end = elim d [ | inl ends ↦ ends.0 | inr failed ↦ absurd (sound failed.1) ]
 
       by : (s : Status) → (due_answer due).status ≡ s → (ended ≡ Done) ⊎ (ended ≡ Memory)
       by Done e = inl (sound-end ∙ e)
@@ -198,4 +253,8 @@ module _ (held : Option Files) (said : List (List ℕ)) (due : Due) (ended : Sta
     where
       by : (o : Option Files) → held ≡ o → IsComplete o said ended
       by None told = tt
-      by (Some files) told = λ done. complete_by files told calm sound done (due_answer due).status refl
+      by (Some files) told = λ done. elim d [
+          | inl ends ↦ complete_by files told calm done ends.0
+          | inr (inl failed) ↦ absurd (sound failed.1)
+          | inr (inr wanting) ↦ inr wanting.0
+        ]

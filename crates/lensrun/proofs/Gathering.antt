@@ -92,3 +92,14 @@ lines-front a b c p t lines i line at g h =
 pub lines-end : (a b : Option (List ℕ)) (p t : List ℕ) (lines : List (List ℕ)) (i : ℕ) → length lines ≡ i
     → Gathers a b p (t ++ concat (take i lines)) → Gathers a b p (t ++ concat lines)
 lines-end a b p t lines i e g = subst (Gathers a b p) (ap (λ l. t ++ concat l) (take_all i lines (omega (arith, e)))) g
+
+-- ---- texts that are written at once
+pub gathers-taken : (a b : Option (List ℕ)) (t : List ℕ) → Takes a b t → Gathers a b [] t
+gathers-taken a b t h = record { written = t; takes = h; whole = append-nil t }
+
+pub taken-gathers : (a b : Option (List ℕ)) (t : List ℕ) → Gathers a b [] t → Takes a b t
+taken-gathers a b t g = subst (Takes a b) (sym (append-nil g.written) ∙ g.whole) g.takes
+
+-- a front of nothing
+pub front-none : (a : Option (List ℕ)) (t : List ℕ) → TakesFront a a t
+front-none a t = (0, Takes-nil a)

@@ -9,6 +9,7 @@ use Rattle.lensmodel.specs.Call.Inputs.{Inputs}
 use Rattle.lensmodel.specs.Call.TopCall as top
 use Rattle.lensmodel.specs.Call.TopCall.{Command, Means, command_answer, command_by, if_built, index, glass, read, trace, trace_json, first, seidel}
 use Rattle.lensmodel.specs.Call.Trace.{PrintsRows}
+use Rattle.lensmodel.specs.Call.TraceJson.{PrintsJson}
 use Rattle.lensmodel.specs.Files.Catalogue.{catalogue}
 use Rattle.lensmodel.specs.Files.Picking.{Picked, picked}
 use Rattle.lensmodel.specs.Texts.FaultText.{agf_cause, too_long_line}
@@ -101,6 +102,22 @@ module _ (files : Contents) (i : Inputs) (due : Due) where
         spots = h.spots;
       }
 
+-- and of rows in JSON
+module _ (files : Contents) (i : Inputs) (due : Due) where
+  jsons-mean : IsAnswered files (Some (trace_json i)) due → ((due_answer due).status ≡ Done → DueHolds due)
+      → (command_answer files (Some (trace_json i))).status ≡ Done → PrintsJson files i (command_answer files (Some (trace_json i))).text
+  jsons-mean a holds done =
+      let ended : (due_answer due).status ≡ Done = ap (λ (x : Answer). x.status) a.answer ∙ done in
+      let r = a.rests ended in
+      let t = r.0 in
+      record {
+        setup = t.setup;
+        job = t.job;
+        inputs = r.2;
+        printed = sym (ap (λ (x : Answer). x.text) a.answer) ∙ ap (λ (d : Due). (due_answer d).text) r.1;
+        rows = subst DueHolds r.1 (holds ended);
+      }
+
 command-means : (files : Contents) (c : Option Command) (due : Due) → IsBuilt c → IsAnswered files c due → ((due_answer due).status ≡ Done → DueHolds due)
     → Means files c (command_answer files c)
 unfolding PrintsWhenDone IsBuilt
@@ -109,7 +126,7 @@ command-means files (Some (index c)) due b a holds = index-means files c
 command-means files (Some (glass agf)) due b a holds = λ done. tt
 command-means files (Some (read zmx)) due b a holds = λ done. tt
 command-means files (Some (trace i)) due b a holds = λ done. rows-mean files i due a holds done
-command-means files (Some (trace_json i)) due b a holds = absurd (cc)
+command-means files (Some (trace_json i)) due b a holds = λ done. jsons-mean files i due a holds done
 command-means files (Some (first i)) due b a holds = absurd (cc)
 command-means files (Some (seidel i)) due b a holds = absurd (cc)
 

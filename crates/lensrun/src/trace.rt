@@ -39,9 +39,9 @@ use std::sync::ledger::Ledger;
 
 /// A lens, and its surfaces as they were prepared for it.
 #[derive(Drop)]
-struct Filled<'a> {
-    setup: &'a Setup,
-    bench: &'a Bench,
+pub(crate) struct Filled<'a> {
+    pub(crate) setup: &'a Setup,
+    pub(crate) bench: &'a Bench,
 }
 
 /// Writes the report of a trace: its head, the lines of each ray and of each grid, and the totals. The
