@@ -10,7 +10,7 @@ use Rattle.std.proofs.lemmas.List.Sums.{sum_by-cons, sum_by_more, sum_by_more_le
 use Rattle.std.proofs.lemmas.Option.{slice_get-map, slice_get_within, get_or_from_slice_get}
 use Rattle.std.proofs.Math.Seq.{take-suc, take-append_seam}
 use Rattle.lensmodel.specs.Call.Trace.{ask_lines, asks_lines, rows_of, traced, SpotsHold}
-use Rattle.lensmodel.specs.Call.TraceJson.{json_lines}
+use Rattle.lensmodel.specs.Call.TraceJson.{json_lines, json_text}
 use Rattle.lensmodel.specs.Claims.RowClaims.{RowHolds}
 use Rattle.lensmodel.specs.Claims.SpotClaims.{IsTraced, SpotHolds, Traced}
 use Rattle.lensmodel.specs.Rows.Ray.{row}
@@ -26,10 +26,10 @@ use Rattle.lensmodel.specs.declared.launch.Launch.{Launch}
 use Rattle.lensmodel.specs.declared.launch.Launch.TheVariants.{Pupil}
 use Rattle.lensmodel.specs.declared.row.Row.{Row}
 use Rattle.lensmodel.specs.declared.setup.Setup.{Setup}
-use Rattle.lensio.specs.Taken.{TakesFront}
+use Rattle.lensio.specs.Taken.{Takes, TakesFront}
 use Rattle.lensrun.specs.Gathered.{Gathers}
 use Rattle.lensrun.specs.Numbered.{numbered}
-use Rattle.lensrun.proofs.Gathering.{lines-front, lines-end}
+use Rattle.lensrun.proofs.Gathering.{lines-front, lines-end, taken-gathers}
 use Rattle.lensrun.proofs.Reaches.{row-is}
 use Rattle.spotfan.specs.Chains.{spot_holds}
 
@@ -164,6 +164,15 @@ jsons-are s i (a ∷ more) =
 pub json_rows-are : (i : ℕ) (rows : List Row) → concat (numbered json_line i rows) ≡ json_lines i rows
 json_rows-are i [] = refl
 json_rows-are i (r ∷ more) = ap (λ l. json_line i r ++ l) (json_rows-are (suc i) more)
+
+module _ (s : Setup) (job : Job) (asks : List Ask) (same : asks ≡ job.asks) (a b : Option (List ℕ)) where
+  pub json_taken : Gathers a b [] (json_lines 1 (map (row s) (job_launches asks))) → Takes a b (json_text s job)
+  unfolding json_text
+  json_taken g = subst (λ l. Takes a b (json_lines 1 (map (row s) (job_launches l)))) same (taken-gathers a b (json_lines 1 (map (row s) (job_launches asks))) g)
+
+  pub json_front : TakesFront a b (json_lines 1 (map (row s) (job_launches asks))) → TakesFront a b (json_text s job)
+  unfolding json_text
+  json_front h = subst (λ l. TakesFront a b (json_lines 1 (map (row s) (job_launches l)))) same h
 
 pub job_rows-next : (s : Setup) (asks : List Ask) (k : ℕ) (a : Ask) → slice_get asks k ≡ Some a
     → map (row s) (job_launches (take k asks)) ++ rows_of s a ≡ map (row s) (job_launches (take (k + 1) asks))

@@ -27,8 +27,8 @@ unfolding IsTrace
 trace-or-none (Line status text) = inr refl
 trace-or-none (Glasses book) = inr refl
 trace-or-none (Lens file) = inr refl
-trace-or-none (Trace t) = inl (λ no. no, refl)
-trace-or-none (TraceJson t) = inl (λ no. no, refl)
+trace-or-none (Trace t) = inl (λ unlike. unlike, refl)
+trace-or-none (TraceJson t) = inl (λ unlike. unlike, refl)
 trace-or-none Nothing = inr refl
 
 -- rows in JSON are a report
@@ -41,12 +41,12 @@ streamed-done (TraceJson t) s = refl
 streamed-done Nothing s = absurd s
 
 streamed-unlike : (due : Due) → IsStreamed due → IsNoTrace due → ⊥
-streamed-unlike (TraceJson t) s no = no
-streamed-unlike (Trace t) s no = no
-streamed-unlike (Line status text) s no = s
-streamed-unlike (Glasses book) s no = s
-streamed-unlike (Lens file) s no = s
-streamed-unlike Nothing s no = s
+streamed-unlike (TraceJson t) s unlike = unlike
+streamed-unlike (Trace t) s unlike = s
+streamed-unlike (Line status text) s unlike = s
+streamed-unlike (Glasses book) s unlike = s
+streamed-unlike (Lens file) s unlike = s
+streamed-unlike Nothing s unlike = s
 
 streamed-command : (files : Contents) (c : Option Command) (due : Due) → IsStreamed due → IsAnswered files c due → IsStreamedReport c
 streamed-command files None due s a = streamed-unlike due s a.rests
@@ -151,7 +151,7 @@ module _ (held : Option Files) (said : List (List ℕ)) (due : Due) (ended : Sta
             | inr (inl failed) ↦ absurd (subst (BeginsNoReport (command_of said)) failed.0 none)
             | inr (inr wanting) ↦ absurd (subst (BeginsNoReport (command_of said)) wanting.0 none (streamed-report wanting.1))
           ]
-        | inr no ↦ unprepared no
+        | inr none_due ↦ unprepared none_due
       ]
 
     prepares_by : (files : Contents) (c : Option Command) → IsTrace due → IsAnswered files c due → PreparesLens files c steps steps'
@@ -171,7 +171,7 @@ module _ (held : Option Files) (said : List (List ℕ)) (due : Due) (ended : Sta
         | inl is ↦
             inr (OfFiles-map held (λ files. IsAnswered files (command_of said) due) (λ files. PreparesLens files (command_of said) steps steps')
             (λ files a. prepares_by files (command_of said) is a) (h.outcome (subst IsDecided (sym is.1) tt)))
-        | inr no ↦ inl (unprepared no)
+        | inr none_due ↦ inl (unprepared none_due)
       ]
 
 -- ---- what the outside counted
