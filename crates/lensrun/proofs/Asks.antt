@@ -1,28 +1,25 @@
 -- The lines of a job that ask for rays, their rays one after another, and what holds of all of them.
-use Rattle.std.proofs.Common.{◌≡◌, ℕ, zero, suc, ◌+◌, ◌*◌, ◌<◌, ◌≤◌, Bool, List, [], ◌∷◌, ◌++◌, length, map, take, drop, get_or, Option, Some, refl, sym, ap, subst, ◌∙◌, append_assoc, append-nil, add-one, arith}
-use Rattle.std.specs.Prelude.{slice_get, flat_map, IsTrue, pos, neg_ℤ, ◌+ℤ◌, ℤ}
-use Rattle.std.specs.List.{All, concat, sum_by}
+use Rattle.std.proofs.Common.{◌≡◌, ℕ, zero, suc, ◌+◌, ◌*◌, ◌<◌, ◌≤◌, List, [], ◌∷◌, ◌++◌, length, map, take, drop, Option, Some, refl, sym, ap, subst, ◌∙◌, append-nil, add-one, arith}
+use Rattle.std.specs.Prelude.{slice_get, flat_map, pos, neg_ℤ, ◌+ℤ◌, ℤ}
+use Rattle.std.specs.List.{All, concat}
 use Rattle.std.specs.Option.{option_map}
 use Rattle.std.proofs.lemmas.Grind.{flat_map-append}
-use Rattle.std.proofs.lemmas.List.{length-map, length-append, take_all, take-append-drop}
-use Rattle.std.proofs.lemmas.List.Elements.{All-nil, All-cons, All-more, All-map, All-weaker, All-append, All-take, All-drop, All-same, All-head, All-tail}
+use Rattle.std.proofs.lemmas.List.{length-map, length-append, take_all}
+use Rattle.std.proofs.lemmas.List.Elements.{All-nil, All-cons, All-more, All-map, All-weaker, All-append, All-take, All-drop, All-same}
 use Rattle.std.proofs.lemmas.List.Sums.{sum_by-cons, sum_by_more, sum_by_more_le}
 use Rattle.std.proofs.lemmas.Option.{slice_get-map, slice_get_within, get_or_from_slice_get}
 use Rattle.std.proofs.Math.Seq.{take-suc, take-append_seam}
-use Rattle.lensmodel.specs.Call.Trace.{ask_lines, asks_lines, rows_of, traced, SpotsHold}
+use Rattle.lensmodel.specs.Call.Trace.{ask_lines, asks_lines, rows_of, traced}
 use Rattle.lensmodel.specs.Claims.RowClaims.{RowHolds}
-use Rattle.lensmodel.specs.Claims.SpotClaims.{IsTraced, SpotHolds, Traced}
+use Rattle.lensmodel.specs.Claims.SpotClaims.{IsTraced, SpotHolds}
 use Rattle.lensmodel.specs.Rows.Ray.{row}
-use Rattle.lensmodel.specs.Setup.Launches.{launches, count, fan, grid, numbers_from, part, parts, middle, job_launches, job_count}
+use Rattle.lensmodel.specs.Setup.Launches.{launches, count, fan, numbers_from, part, parts, middle, job_launches, job_count}
 use Rattle.lensmodel.specs.Setup.Ratio.{Ratio}
 use Rattle.lensmodel.specs.Setup.Values.{image}
-use Rattle.lensmodel.specs.Setup.WellFormed.{IsWellFormed}
 use Rattle.lensmodel.specs.declared.job.Ask.{Ask}
 use Rattle.lensmodel.specs.declared.job.Ask.TheVariants.{Ray, Aim, Fan, Spot, First, Seidel}
-use Rattle.lensmodel.specs.declared.job.Job.{Job}
 use Rattle.lensmodel.specs.declared.launch.Launch.{Launch}
 use Rattle.lensmodel.specs.declared.launch.Launch.TheVariants.{Pupil}
-use Rattle.lensmodel.specs.declared.row.Row.{Row}
 use Rattle.lensmodel.specs.declared.setup.Setup.{Setup}
 use Rattle.lensio.specs.Taken.{TakesFront}
 use Rattle.lensrun.specs.Gathered.{Gathers}
