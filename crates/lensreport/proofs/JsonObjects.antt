@@ -1,7 +1,7 @@
 -- The compact text of arrays and objects, of any data.
 use Rattle.std.proofs.Common.{◌≡◌, ℕ, false, List, [], ◌∷◌, ◌++◌, refl, sym, ap, ◌∙◌, append_assoc}
 use Rattle.lensmodel.specs.Texts.JsonRows as rows
-use Rattle.serde_json.specs.Data.{Data, string, array, object, Items, item, no_items, Members, member, no_members}
+use Rattle.serde_json.specs.Data.{string, array, object, Items, item, no_items, Members, member, no_members}
 use Rattle.serde_json.specs.Written.{compact_text, items_text, members_text}
 
 abbrev pub texts_of : Items → List (List ℕ)

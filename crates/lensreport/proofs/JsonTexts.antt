@@ -19,7 +19,7 @@ use Rattle.fixdec.specs.declared.step.Why.TheVariants.{Root, Zero, Range}
 use Rattle.lensreport.specs.JsonData.{count_data, span_data, heading_then, place_data, places_data, at_then, overlap_then, why_then, word_members, row_members, row_data}
 use Rattle.lensreport.proofs.JsonObjects.{texts_of, pairs_of, array_text, object_text}
 use Rattle.serde_json.proofs.OnLiterals.{serde_json_on_literals}
-use Rattle.serde_json.specs.Data.{Data, string, number, array, item, no_items, Members, member, no_members, put}
+use Rattle.serde_json.specs.Data.{Data, string, array, item, no_items, Members, member, no_members, put}
 use Rattle.serde_json.specs.Written.{compact_text, has_float, items_have_float, members_have_float}
 
 -- ---- texts that need no escape

@@ -1,5 +1,5 @@
 -- The row of a ray as data of JSON: its members in the order of their keys, its intervals as texts.
-use Rattle.std.specs.Prelude.{ℕ, List, [], ◌∷◌, codes, map, Option, Some, None}
+use Rattle.std.specs.Prelude.{ℕ, List, codes, map, Option, Some, None}
 use Rattle.fixdec.specs.DecimalText.{fix_text}
 use Rattle.fixdec.specs.Ends.{Ends}
 use Rattle.lensmodel.specs.Texts.Pieces.{why_text}
