@@ -1,9 +1,9 @@
 -- The lines of rays, as they are gathered: texts as lists of lines.
-use Rattle.std.proofs.Common.{◌≡◌, ℕ, zero, suc, ◌+◌, ◌-◌, ◌<◌, ◌≤◌, Bool, true, false, cond, List, [], ◌∷◌, ◌++◌, length, map, take, drop, get_or, Option, Some, refl, sym, ap, subst, ◌∙◌, append_assoc, append-nil, arith}
+use Rattle.std.proofs.Common.{◌≡◌, ℕ, suc, ◌+◌, ◌-◌, Bool, true, false, cond, List, [], ◌∷◌, ◌++◌, length, take, drop, Option, Some, refl, sym, ap, subst, ◌∙◌, append_assoc, append-nil, arith}
 use Rattle.std.specs.Prelude.{slice_get}
 use Rattle.std.proofs.lemmas.List.{take_all, length-drop}
 use Rattle.std.specs.List.{concat}
-use Rattle.lensio.specs.Taken.{Takes, TakesFront}
+use Rattle.lensio.specs.Taken.{TakesFront}
 use Rattle.lensmodel.specs.Texts.Rows.{place_lines, all_places, last_place, ray_line, ray_lines, rays_lines}
 use Rattle.lensmodel.specs.declared.row.Place.{Place}
 use Rattle.lensmodel.specs.declared.row.Row.{Row}

@@ -1,5 +1,5 @@
 -- What one more line changes in the blocks of lines.
-use Rattle.std.specs.Prelude.{◌≡◌, ◌⊎◌, ℕ, suc, true, false, Bool, List, [], ◌∷◌, ◌++◌, length, slice_set, slice_index_or, if◌then◌else◌, refl}
+use Rattle.std.specs.Prelude.{◌≡◌, ◌⊎◌, true, false, Bool, List, [], ◌∷◌, ◌++◌, if◌then◌else◌, refl}
 use Rattle.std.proofs.Common.{ap, sym, ◌∙◌, inl, inr}
 use Rattle.lensmodel.specs.Files.Records.{Words, block_before, each_block}
 

@@ -1,22 +1,20 @@
 -- The lines of a lens file, and what it says.
-use Rattle.std.specs.Prelude.{◌≡◌, ℕ, List, [], length, Option, Some, None, Result, Ok, Err, IfOk, OnOk, refl}
+use Rattle.std.specs.Prelude.{◌≡◌, ℕ, List, [], length, Some, None, Result, Ok, Err, IfOk, OnOk}
 use Rattle.std.specs.List.{All}
 use Rattle.std.proofs.Common.{ap, sym, subst, ◌∙◌}
 use Rattle.lensmodel.specs.Files.Causes.{ok_unless, or_first}
-use Rattle.lensmodel.specs.Files.Lens.{is_marked, marked_from, one_or, all_surfaces, surface_of, lens_of, file_of, of_lines, prescription}
+use Rattle.lensmodel.specs.Files.Lens.{is_marked, marked_from, one_or, lens_of, file_of, of_lines, prescription}
 use Rattle.lensmodel.specs.Files.LensFaults.{is_SURF, offence}
-use Rattle.lensmodel.specs.Files.LensFile.{LensFile}
-use Rattle.lensmodel.specs.Files.Records.{Words, each_words, each_block, count_where, first_offence, said_by}
+use Rattle.lensmodel.specs.Files.Records.{Words, each_words, each_block, first_offence, said_by}
 use Rattle.lensmodel.specs.Files.TextLines.{text}
 use Rattle.lensmodel.specs.Setup.WellFormed.{IsWrittenSurface, IsWrittenLens, IsSound}
 use Rattle.lensmodel.specs.Setup.WholeFaults.{whole_fault}
 use Rattle.lensmodel.specs.declared.fault.TextFault.{TextFault}
 use Rattle.lensmodel.specs.declared.fault.ZmxFault.{ZmxFault}
 use Rattle.lensmodel.specs.declared.fault.ZmxFault.TheVariants.{Text}
-use Rattle.lensmodel.specs.declared.prescription.Prescription.{Prescription}
 use Rattle.zmxread.specs.File.{lens_file}
 use Rattle.zmxread.specs.declared.file.ZmxFile.{ZmxFile}
-use Rattle.zmxread.specs.Readers.{IsAt, stop_among, closed_lens}
+use Rattle.zmxread.specs.Readers.{IsAt, closed_lens}
 use Rattle.zmxread.specs.Stops.{stop_or}
 use Rattle.zmxread.specs.declared.walk.Reader.{Reader}
 use Rattle.zmxread.proofs.Marks.{stop_of-among}

@@ -1,5 +1,5 @@
 -- A write of the last item of a list.
-use Rattle.std.specs.Prelude.{◌≡◌, ℕ, zero, suc, ◌-◌, List, [], ◌∷◌, ◌++◌, length, take, drop, slice_set, slice_index_or, refl}
+use Rattle.std.specs.Prelude.{◌≡◌, ℕ, suc, ◌-◌, List, [], ◌∷◌, ◌++◌, length, drop, slice_set, slice_index_or, refl}
 use Rattle.std.specs.List.{refill}
 use Rattle.std.proofs.Common.{ap, sym, ◌∙◌, inl, inr, arith, length-append, ◌≤◌}
 use Rattle.std.proofs.lemmas.List.{take-append-le, take_all}

@@ -1,11 +1,11 @@
 -- The last lines of each tag in a block with one more line, and what they make of its surface.
-use Rattle.std.specs.Prelude.{◌≡◌, ℕ, true, false, Bool, ◌&&◌, nat_eq, List, [], ◌∷◌, ◌++◌, codes, Option, Some, None, if◌then◌else◌, refl}
+use Rattle.std.specs.Prelude.{◌≡◌, ℕ, true, false, ◌&&◌, nat_eq, List, [], ◌∷◌, ◌++◌, codes, Option, Some, None, if◌then◌else◌, refl}
 use Rattle.std.proofs.Common.{ap, ◌∙◌}
 use Rattle.fixdec.specs.Decimal.{Decimal}
 use Rattle.lensmodel.specs.Files.Causes.{or_first}
 use Rattle.lensmodel.specs.Files.Lens.{last_of, last_of_index, kind_in, decimal_in, thickness_in, glass_in, mirror_in, semi_in, rim_in, coefficient_in, surface_of}
 use Rattle.lensmodel.specs.Files.LensFaults.{is_SURF}
-use Rattle.lensmodel.specs.Files.Records.{Words, same_word, has_tag, word_at, is_number, last_where, decimal_at}
+use Rattle.lensmodel.specs.Files.Records.{Words, same_word, has_tag, word_at, is_number, decimal_at}
 use Rattle.lensmodel.specs.declared.surface.Surface.{Surface}
 use Rattle.records.specs.LineLaws.{last_where-append}
 use Rattle.zmxread.specs.Changes.{with_TYPE, with_CURV, with_CONI, with_DISZ, with_GLAS, with_DIAM, with_coefficient}

@@ -1,9 +1,9 @@
 -- One more line of a whole lens.
-use Rattle.std.specs.Prelude.{◌≡◌, ℕ, true, false, List, [], ◌∷◌, ◌++◌, length, codes, Some, None, if◌then◌else◌, refl}
+use Rattle.std.specs.Prelude.{◌≡◌, ℕ, true, false, List, [], ◌∷◌, ◌++◌, length, codes, Some, None, refl}
 use Rattle.std.proofs.Common.{ap, sym, ◌∙◌}
-use Rattle.lensmodel.specs.Files.Lens.{is_marked, surface_of, all_surfaces, primary_in}
-use Rattle.lensmodel.specs.Files.LensFaults.{is_SURF, is_of_lens, is_of_surface, is_read, index_of, offence, MODE_fault, SURF_fault, PWAV_fault, indexed_fault}
-use Rattle.lensmodel.specs.Files.Records.{Words, same_word, has_tag, word_at, count_where, some_where, number_or_0}
+use Rattle.lensmodel.specs.Files.Lens.{surface_of, primary_in}
+use Rattle.lensmodel.specs.Files.LensFaults.{is_SURF, is_read, index_of, offence, MODE_fault, SURF_fault, PWAV_fault, indexed_fault}
+use Rattle.lensmodel.specs.Files.Records.{Words, same_word, has_tag, word_at, number_or_0}
 use Rattle.lensmodel.specs.Setup.Values.{plane}
 use Rattle.zmxread.specs.Lens.{with_WAVM}
 use Rattle.zmxread.specs.Readers.{IsAt, stop_among}

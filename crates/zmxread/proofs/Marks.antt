@@ -1,7 +1,7 @@
 -- The stop with one more line.
-use Rattle.std.specs.Prelude.{◌≡◌, ◌≢◌, ℕ, zero, suc, ◌+◌, ◌<◌, true, false, Bool, nat_eq, nat_lt, List, [], ◌∷◌, ◌++◌, length, codes, if◌then◌else◌, refl}
+use Rattle.std.specs.Prelude.{◌≡◌, ℕ, suc, ◌+◌, ◌<◌, true, false, Bool, nat_eq, nat_lt, List, [], ◌∷◌, ◌++◌, length, codes, if◌then◌else◌, refl}
 use Rattle.std.proofs.Common.{ap, sym, ◌∙◌, inl, inr, arith, add-zero, zero-add, length-append, ◌≤◌}
-use Rattle.std.proofs.lemmas.Bool.{eqb-true, eq-eqb}
+use Rattle.std.proofs.lemmas.Bool.{eq-eqb}
 use Rattle.lensmodel.specs.Files.Lens.{is_marked, marked_from, one_or}
 use Rattle.lensmodel.specs.Files.LensFaults.{is_SURF}
 use Rattle.lensmodel.specs.Files.Records.{Words, has_tag, each_block, count_where}

@@ -1,29 +1,27 @@
 -- One more line: what it says of the lens, by what the reader did with it.
-use Rattle.std.specs.Prelude.{◌≡◌, ℕ, zero, suc, ◌+◌, ◌-◌, true, false, Bool, ◌||◌, ◌&&◌, nat_eq, nat_le, nat_lt, List, [], ◌∷◌, ◌++◌, length, codes, slice_set, slice_index_or, ℤ, pos, negsuc, Option, Some, None, if◌then◌else◌, refl}
-use Rattle.std.proofs.Common.{ap, sym, subst, ◌∙◌, inl, inr, arith, true≢false}
+use Rattle.std.specs.Prelude.{◌≡◌, ℕ, zero, suc, ◌-◌, true, false, Bool, ◌||◌, ◌&&◌, nat_eq, nat_le, nat_lt, List, [], ◌∷◌, ◌++◌, length, codes, slice_set, slice_index_or, ℤ, pos, negsuc, Option, Some, None, if◌then◌else◌, refl}
+use Rattle.std.proofs.Common.{ap, sym, ◌∙◌, arith}
 use Rattle.arrayvec.specs.ArrayVec.{with_items}
-use Rattle.lensmodel.specs.Files.Causes.{or_first, first_fault, bad_unless}
-use Rattle.lensmodel.specs.Files.Lens.{last_of, is_marked, surface_of, all_surfaces, primary_in, wavelengths, unused_names, counted}
-use Rattle.lensmodel.specs.Files.LensFaults.{is_SURF, is_of_lens, is_of_surface, is_read, index_of, bad_index, bad_decimal, missing, offence, surface_offence, MODE_fault, SURF_fault, PWAV_fault, indexed_fault}
-use Rattle.lensmodel.specs.Files.Records.{Words, has_tag, word_at, each_block, count_where, some_where, is_number, number_or_0, number_to, is_whole_number, whole_decimal, decimal_at}
-use Rattle.lensmodel.specs.Setup.Values.{plane}
+use Rattle.lensmodel.specs.Files.Causes.{or_first, bad_unless}
+use Rattle.lensmodel.specs.Files.Lens.{is_marked, surface_of, all_surfaces, primary_in, unused_names, counted}
+use Rattle.lensmodel.specs.Files.LensFaults.{is_SURF, is_of_lens, is_of_surface, is_read, index_of, bad_index, bad_decimal, missing, offence, surface_offence, indexed_fault}
+use Rattle.lensmodel.specs.Files.Records.{Words, has_tag, word_at, each_block, count_where, some_where, is_number, number_or_0, number_to, is_whole_number, whole_decimal}
 use Rattle.lensmodel.specs.declared.fault.ZmxFault.{ZmxFault}
 use Rattle.lensmodel.specs.declared.surface.Surface.{Surface}
 use Rattle.fixdec.specs.Reading.{decimal_of}
 use Rattle.zmxread.specs.Changes.{with_field, with_TYPE, with_CURV, with_DISZ, with_GLAS, with_DIAM, with_CONI, with_PARM}
-use Rattle.zmxread.specs.Lens.{with_WAVM}
 use Rattle.zmxread.specs.Readers.{IsAt, stop_among, marks_of}
 use Rattle.zmxread.specs.Stops.{marked_too}
 use Rattle.zmxread.specs.Tags.{with_unused}
 use Rattle.zmxread.specs.declared.walk.Reader.{Reader}
 use Rattle.zmxread.specs.declared.walk.Stop.{Stop}
-use Rattle.zmxread.proofs.Blocks.{Changes, on_last, on_last-same, each_block-begins, each_block-grows}
+use Rattle.zmxread.proofs.Blocks.{Changes, on_last, on_last-same, each_block-grows}
 use Rattle.zmxread.proofs.LastItem.{write-last}
-use Rattle.zmxread.proofs.Lasts.{HasNone, none-changes, TYPE-changes, CURV-changes, CONI-changes, DISZ-changes, GLAS-changes, DIAM-changes, PARM-changes, last_of-new, last_of-old}
-use Rattle.zmxread.proofs.Marks.{marks-STOP, marks-SURF, marks-other, positive}
+use Rattle.zmxread.proofs.Lasts.{HasNone, none-changes, TYPE-changes, CURV-changes, CONI-changes, DISZ-changes, GLAS-changes, DIAM-changes, PARM-changes, last_of-old}
+use Rattle.zmxread.proofs.Marks.{marks-STOP, marks-other, positive}
 use Rattle.zmxread.proofs.TagWords.{other_tag}
 use Rattle.zmxread.proofs.Unused.{unused-read, unused-more}
-use Rattle.zmxread.proofs.Waves.{waves-new, waves-old}
+use Rattle.zmxread.proofs.Waves.{waves-old}
 
 -- ---- numbers
 number-index : (most : ℕ) (o : Option ℤ) (f : ZmxFault) → bad_unless (number_to most o) f ≡ None → (k : ℕ) → is_whole_number k o ≡ nat_eq (number_or_0 (number_to most o)) k

@@ -1,6 +1,6 @@
 -- A line begins with one tag alone.
 use Rattle.std.specs.Prelude.{◌≡◌, ℕ, true, false, List, [], ◌∷◌, refl}
-use Rattle.std.proofs.Common.{ap, ◌∙◌, sym, true≢false}
+use Rattle.std.proofs.Common.{ap, ◌∙◌}
 use Rattle.lensmodel.specs.Files.Records.{Words, same_word, has_tag}
 use Rattle.records.specs.SameWords.{same-yes}
 

@@ -1,12 +1,11 @@
 -- The unused tags with one more line.
-use Rattle.std.specs.Prelude.{◌≡◌, ℕ, suc, ◌+◌, true, false, Bool, ◌&&◌, nat_eq, not, List, [], ◌∷◌, ◌++◌, filter, count_by, codes, if◌then◌else◌, refl}
+use Rattle.std.specs.Prelude.{◌≡◌, ℕ, suc, ◌+◌, true, false, List, [], ◌∷◌, ◌++◌, if◌then◌else◌, refl}
 use Rattle.std.proofs.Common.{ap, sym, ◌∙◌, append_assoc, true≢false, arith}
 use Rattle.std.proofs.lemmas.List.Sums.{sum_by-append}
-use lib.Pointwise.{pointwise}
 use Rattle.lensmodel.specs.Files.Lens.{tag_name, unused_names, count_of_name, without_tag, counted}
 use Rattle.lensmodel.specs.Files.LensFaults.{is_read}
 use Rattle.lensmodel.specs.Files.Records.{Words, same_word}
-use Rattle.records.specs.SameWords.{same-yes, same-self, same-of}
+use Rattle.records.specs.SameWords.{same-yes, same-of}
 use Rattle.zmxread.specs.Tags.{with_one_more, with_unused}
 
 append-none : {A : Type 0} (xs : List A) → xs ++ [] ≡ xs

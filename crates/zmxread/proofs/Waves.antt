@@ -1,6 +1,6 @@
 -- The wavelengths with one more line.
-use Rattle.std.specs.Prelude.{◌≡◌, ℕ, zero, suc, ◌+◌, ◌≤◌, true, false, Bool, nat_eq, List, [], ◌∷◌, ◌++◌, map, slice_set, codes, Option, Some, None, if◌then◌else◌, refl}
-use Rattle.std.proofs.Common.{ap, sym, ◌∙◌, arith}
+use Rattle.std.specs.Prelude.{◌≡◌, ℕ, zero, suc, ◌+◌, ◌≤◌, true, false, nat_eq, List, [], ◌∷◌, ◌++◌, map, slice_set, codes, Option, Some, if◌then◌else◌, refl}
+use Rattle.std.proofs.Common.{ap, ◌∙◌, arith}
 use Rattle.fixdec.specs.Decimal.{Decimal}
 use Rattle.lensmodel.specs.Files.Lens.{last_of_index, wavelength, wavelength_in, wavelengths}
 use Rattle.lensmodel.specs.Files.Records.{Words, has_tag, word_at, is_number, decimal_at}

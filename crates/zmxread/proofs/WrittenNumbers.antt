@@ -1,5 +1,5 @@
 -- Each number that a lens file gives has an exponent that is read.
-use Rattle.std.specs.Prelude.{◌≡◌, ℕ, ℤ, pos, neg_ℤ, ◌≤ℤ◌, int_le, nat_le, nat_lt, ◌&&◌, Bool, true, false, List, [], ◌∷◌, codes, length, map, Option, Some, None, if◌then◌else◌, refl}
+use Rattle.std.specs.Prelude.{◌≡◌, ℕ, pos, neg_ℤ, ◌≤ℤ◌, int_le, nat_le, ◌&&◌, Bool, true, false, List, [], ◌∷◌, codes, length, map, Option, Some, None, if◌then◌else◌, refl}
 use Rattle.std.specs.List.{All}
 use Rattle.std.proofs.Common.{arith}
 use Rattle.std.proofs.lemmas.Int.{ints}
@@ -7,9 +7,9 @@ use Rattle.std.proofs.lemmas.List.Elements.{All-cons}
 use Rattle.fixdec.specs.Decimal.{Decimal}
 use Rattle.fixdec.specs.Reading.{decimal_of, split, is_whole, is_readable}
 use Rattle.fixdec.specs.Word.{significant, kept_decimal}
-use Rattle.lensmodel.specs.Files.Lens.{decimal_in, thickness_in, semi_in, coefficient_in, last_of, last_of_index, surface_of, all_surfaces, wavelength, wavelength_in, wavelengths, lens_of}
+use Rattle.lensmodel.specs.Files.Lens.{decimal_in, thickness_in, semi_in, last_of, last_of_index, surface_of, all_surfaces, wavelength, wavelength_in, lens_of}
 use Rattle.lensmodel.specs.Files.LensFaults.{is_SURF, is_infinity}
-use Rattle.lensmodel.specs.Files.Records.{Words, word_at, block_before, each_block, decimal_at, decimal_or_0}
+use Rattle.lensmodel.specs.Files.Records.{Words, word_at, block_before, decimal_at, decimal_or_0}
 use Rattle.lensmodel.specs.Setup.Values.{zero_decimal}
 use Rattle.lensmodel.specs.Setup.WellFormed.{IsWritten, IsWrittenIf, IsWrittenSurface, IsWrittenLens}
 use Rattle.zmxread.proofs.Waves.{from}

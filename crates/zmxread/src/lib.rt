@@ -8,5 +8,7 @@ mod numbers;
 pub mod read;
 mod surface;
 pub mod tags;
+#[cfg(test)]
+mod tests;
 mod walk;
 mod whole;

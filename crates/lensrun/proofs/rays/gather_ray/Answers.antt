@@ -1,6 +1,5 @@
-use Rattle.std.proofs.Common.{◌+◌, refl, drop}
+use Rattle.std.proofs.Common.{refl}
 use Rattle.std.proofs.lemmas.Result.{err_from_is_err_and, on_ok_weaker, on_err_weaker}
-use Rattle.lensmodel.specs.Texts.Rows.{all_places}
 use Rattle.lensrun.proofs.RayLines.{first_of, ray-is, ray-slice-is, first-front, second-front, both}
 use Rattle.lensrun.proofs.rays.gather_ray.Goals as goal
 

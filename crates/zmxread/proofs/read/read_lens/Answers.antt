@@ -1,7 +1,6 @@
-use Rattle.std.proofs.Common.{◌≡◌}
 use Rattle.std.proofs.lemmas.Result.{IfErr-weaker}
 use Rattle.lensmodel.specs.Files.Records.{each_words}
-use Rattle.zmxread.proofs.FileLines.{all-written, finished-file, finished-lens, of_lines-fault, of_lines-whole}
+use Rattle.zmxread.proofs.FileLines.{all-written, finished-file, finished-lens, of_lines-whole}
 use Rattle.zmxread.proofs.read.read_lens.Goals as goal
 
 pub finish-requires : goal.finish-requires

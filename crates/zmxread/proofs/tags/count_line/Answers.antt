@@ -1,6 +1,6 @@
 use Rattle.std.proofs.Common.{◌≡◌, ◌∙◌, ap, ◌+◌, rules}
 use Rattle.std.specs.Option.{unwrap_or}
-use Rattle.indexmap.specs.Entry.{map_with_value, entry_value}
+use Rattle.indexmap.specs.Entry.{map_with_value}
 use Rattle.indexmap.specs.IndexMap.{insert_entry}
 use Rattle.zmxread.specs.Tags.{pairs_of, with_one_more}
 use Rattle.zmxread.proofs.Counts.{insert-more, lines_of, same_name, pairs-along}

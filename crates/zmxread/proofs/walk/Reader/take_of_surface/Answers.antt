@@ -1,4 +1,4 @@
-use Rattle.std.proofs.Common.{rules, ◌≡◌, true, false, ◌∙◌, sym, ap, codes, arith}
+use Rattle.std.proofs.Common.{rules, ◌≡◌, true, false, ◌∙◌, codes}
 use Rattle.std.specs.Prelude.{length}
 use Rattle.std.proofs.lemmas.Result.{IfErr-weaker, on_ok_weaker}
 use Rattle.lensmodel.specs.Files.LensFaults.{is_of_surface}
