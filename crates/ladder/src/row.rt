@@ -1,11 +1,12 @@
 //! The row of one ray, without memory.
 
-ghost use Rattle.std.specs.Prelude.{◌≡◌};
+ghost use Rattle.std.specs.Prelude.{◌≡◌, ◌+◌, ◌*◌, ◌≤◌};
 ghost use Rattle.fixdec.specs.Form.{linear_operations};
 ghost use Rattle.fixdec.specs.IntervalOperations.{operations};
 ghost use Rattle.ladder.specs.Climbs.{climb_by};
 ghost use Rattle.lensmodel.specs.Claims.RowClaims.{RowHolds};
 ghost use Rattle.lensmodel.specs.Rows.Ray as ray;
+ghost use Rattle.lensmodel.specs.Setup.Values as values;
 ghost use Rattle.lensmodel.specs.Setup.WellFormed.{IsWellFormed};
 
 use crate::kept::{last, rung};
@@ -24,6 +25,8 @@ fn by_intervals<L: Ledger>(s: &Setup, q: &Launch, steps: &mut Steps<L>) -> Row
     requires { IsWellFormed s.now }
     ensures exact { result ≡ climb_by operations s.now q.now }
     ensures encloses { RowHolds s.now q.now result }
+    ensures rises { steps.old ≤ steps.new }
+    ensures ticks { steps.new ≤ steps.old + 4 * values.image s.now }
 {
     let mut kept = None;
     macro_rules! climb {
@@ -40,6 +43,8 @@ fn by_forms<L: Ledger>(s: &Setup, q: &Launch, steps: &mut Steps<L>) -> Row
     requires { IsWellFormed s.now }
     ensures exact { result ≡ climb_by linear_operations s.now q.now }
     ensures encloses { RowHolds s.now q.now result }
+    ensures rises { steps.old ≤ steps.new }
+    ensures ticks { steps.new ≤ steps.old + 4 * values.image s.now }
 {
     let mut kept = None;
     macro_rules! climb {
@@ -59,6 +64,8 @@ pub fn row<L: Ledger>(s: &Setup, q: &Launch, steps: &mut Steps<L>) -> Row
     ensures exact { result ≡ ray.row s.now q.now }
     // Every chain lies in the places, and the word holds of every chain.
     ensures encloses { RowHolds s.now q.now result }
+    ensures rises { steps.old ≤ steps.new }
+    ensures ticks { steps.new ≤ steps.old + 4 * values.image s.now }
 {
     match s.toler {
         None => by_intervals(s, q, steps),

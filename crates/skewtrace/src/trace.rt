@@ -1,8 +1,9 @@
 //! The walk of a ray at one scale.
 
-ghost use Rattle.std.specs.Prelude.{◌≡◌, ◌≤◌, [], if◌then◌else◌};
+ghost use Rattle.std.specs.Prelude.{◌≡◌, ◌+◌, ◌≤◌, [], if◌then◌else◌};
 ghost use Rattle.lensmodel.specs.Claims.RowClaims.{RowHolds};
 ghost use Rattle.lensmodel.specs.Rows.Outcome.{outcome_at};
+ghost use Rattle.lensmodel.specs.Setup.Values as values;
 ghost use Rattle.lensmodel.specs.Setup.WellFormed.{IsWellFormed};
 ghost use Rattle.skewtrace.specs.Enclosing.{IsSureFrom};
 ghost use Rattle.skewtrace.specs.Goings as goings;
@@ -49,6 +50,8 @@ fn walk<T: Arith, L: Ledger>(
     requires well { IsWellFormed s.now }
     ensures exact { let out = goings.outcome_first T.ops T.SCALE T.member s.now start in result ≡ (out.word, record { items = out.places }) }
     ensures sure { IsSureFrom T.ops T.SCALE T.member s.now 1 start }
+    ensures rises { steps.old ≤ steps.new }
+    ensures ticks { steps.new ≤ steps.old + values.image s.now }
 {
     let mut trail = Trail::start();
     let mut ray = start;
@@ -63,7 +66,8 @@ fn walk<T: Arith, L: Ledger>(
     at_image::<T>(s, trail)
 }
 
-/// The outcome of a ray at T's scale: its word, and its places from surface 1 on.
+/// The outcome of a ray at T's scale: its word, and its places from surface 1 on. Each surface to
+/// which the walk comes counts one step.
 pub fn trace<T: Arith, L: Ledger>(
     s: &Setup,
     q: &Launch,
@@ -73,6 +77,8 @@ pub fn trace<T: Arith, L: Ledger>(
     requires well { IsWellFormed s.now }
     ensures exact { let out = outcome_at T.ops T.SCALE s.now q.now in result ≡ (out.word, record { items = out.places }) }
     ensures encloses { RowHolds s.now q.now (record { scale = T.SCALE; word = result.0; places = result.1 }) }
+    ensures rises { steps.old ≤ steps.new }
+    ensures ticks { steps.new ≤ steps.old + values.image s.now }
 {
     match start::<T>(s, q) {
         Step::Val(ray) => walk(s, ray, steps),
