@@ -3,9 +3,9 @@
 ghost use Rattle.std.specs.Prelude.{◌≡◌, ◌+◌, ◌<◌, [], IfOk, map};
 ghost use Rattle.std.specs.Process.{exit_status};
 ghost use Rattle.lensio.specs.Count.{Rose, RoseBy};
-ghost use Rattle.lensio.specs.Taken.{Takes, TakesFront};
+ghost use Rattle.lensio.specs.Taken.{TakesFront};
 ghost use Rattle.lensprogram.specs.Ending.{Ends, exit_code, said_after_name, said_in};
-ghost use Rattle.lensrun.specs.Promise.{IsComplete, IsDecided, IsDue, OfFiles, names_of};
+ghost use Rattle.lensrun.specs.Promise.{IsComplete, IsDecided, IsDue, OfFiles, WritesWanting, names_of};
 ghost use Rattle.lensrun.specs.Built.{command_of};
 
 use lensio::disk::SystemDisk;
@@ -85,7 +85,7 @@ pub fn answer<F: Shelf, K: Sink, L: Ledger>(
     ensures read_fault { Ends result (λ status. status ≡ Status.ReadFault → Rose (F.faults shelf.old) (F.faults shelf.new)) }
     ensures too_long { Ends result (λ status. status ≡ Status.TooLong → RoseBy (FILE_LIMIT + 1) (F.given shelf.old) (F.given shelf.new)) }
     ensures write_fault { Ends result (λ status. status ≡ Status.WriteFault → Rose (K.faults out.old) (K.faults out.new)) }
-    ensures silent { Ends result (λ status. status ≡ Status.Memory → Takes (K.taken out.old) (K.taken out.new) []) }
+    ensures silent { Ends result (λ status. status ≡ Status.Memory → WritesWanting (F.held shelf.old) (said_in arguments) (K.taken out.old) (K.taken out.new)) }
     ensures complete { Ends result (λ status.
         ¬ Rose (F.absences shelf.old) (F.absences shelf.new) → ¬ Rose (F.faults shelf.old) (F.faults shelf.new) → ¬ Rose (K.faults out.old) (K.faults out.new)
         → IsComplete (F.held shelf.old) (said_in arguments) status) }

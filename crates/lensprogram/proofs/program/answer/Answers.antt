@@ -1,4 +1,4 @@
-use Rattle.std.proofs.Common.{◌∙◌}
+use Rattle.std.proofs.Common.{◌∙◌, inl}
 use Rattle.lensio.specs.TakenLaws.{Takes-nil}
 use Rattle.lensprogram.proofs.Wanting.{ends_memory, complete_memory}
 use Rattle.lensprogram.proofs.program.answer.Goals as goal
@@ -19,7 +19,7 @@ pub returns-clause-write_fault : goal.returns-clause-write_fault
 returns-clause-write_fault g c = ends_memory _ c.from-in-Err.result (c.from-in-Err.ensures ∙ c.code-in-Err.ensures) (λ is. absurd (cc is))
 
 pub returns-clause-silent : goal.returns-clause-silent
-returns-clause-silent g c = ends_memory _ c.from-in-Err.result (c.from-in-Err.ensures ∙ c.code-in-Err.ensures) (λ _. Takes-nil _)
+returns-clause-silent g c = ends_memory _ c.from-in-Err.result (c.from-in-Err.ensures ∙ c.code-in-Err.ensures) (λ _. inl (Takes-nil _))
 
 pub returns-clause-complete : goal.returns-clause-complete
 returns-clause-complete g c =
