@@ -18,8 +18,8 @@ pub spot_text-of : (grid : List Row) → spot_text (spot_of grid) ≡ rows.spot_
 spot_text-of grid =
     let n : ℕ = length (filter passes grid) in
     ap
-      (λ (t : List ℕ). codes "spot rays" ++ spaced_number (length grid) ++ codes " passes" ++ spaced_number n ++ t ++ newline)
-      (statistics_text-if n grid)
+    (λ (t : List ℕ). codes "spot rays" ++ spaced_number (length grid) ++ codes " passes" ++ spaced_number n ++ t ++ newline)
+    (statistics_text-if n grid)
 
 three_lists : (o h x y : List ℕ) → o ++ h ++ x ++ y ≡ o ++ (h ++ x ++ y)
 three_lists o h x y = simp append_assoc

@@ -115,14 +115,14 @@ module _ {V F : Type 0} (held : Option Files) (c : Command) (file : FileKind) (n
   one_given v due (bytes, found, short, reads) is unlike ends =
       plain_due held (Some c) due
       (subst (λ (x : Answer). IsPlain x.status) (sym is)
-        (elim ends [ | inl e ↦ subst IsPlain (sym e) tt | inr e ↦ subst IsPlain (sym e) tt ]))
+      (elim ends [ inl e ↦ subst IsPlain (sym e) tt | inr e ↦ subst IsPlain (sym e) tt ]))
       (OfFiles-map held (λ files. files file name ≡ Some bytes) (λ files. IsAnswered files (Some c) due)
-        (λ files e. record {
-          answer = is ∙ sym (over files ∙ ap (λ (f : Option (List ℕ)). over_file held file name cause reading f go_on) e
-              ∙ given held file name cause reading v bytes short reads go_on);
-          rests = rests files due unlike;
-        })
-        (having held (Some bytes) found))
+      (λ files e. record {
+        answer = is ∙ sym (over files ∙ ap (λ (f : Option (List ℕ)). over_file held file name cause reading f go_on) e
+            ∙ given held file name cause reading v bytes short reads go_on);
+        rests = rests files due unlike;
+      })
+      (having held (Some bytes) found))
 
   pub one_none : (due : Due) → GivesNone held file name cause reading due → IsDueOf held (Some c) due
   one_none due none = record {
@@ -135,10 +135,16 @@ module _ {V F : Type 0} (held : Option Files) (c : Command) (file : FileKind) (n
         })
         (having held h.0 h.1);
     read_fault = λ e.
-        rw named (0, (file, name), omega arith, refl, record {
-          line = fault_line held file name cause reading due none e;
-          reached = some_files held (λ files. answer_of (without file files) c ≡ answer Absent (absent_line file)) missing;
-        });
+        rw named (
+          0,
+          (file, name),
+          omega arith,
+          refl,
+          record {
+            line = fault_line held file name cause reading due none e;
+            reached = some_files held (λ files. answer_of (without file files) c ≡ answer Absent (absent_line file)) missing;
+          },
+        );
     no_write = no_write held file name cause reading due none;
     nothing = is_nothing held file name cause reading due none;
   }
@@ -165,11 +171,11 @@ module _ (held : Option Files) (i : Inputs) (c : Command) (text : Setup → Job 
   trace_given t made =
       plain_due held (Some c) (report t) (subst (λ (x : Answer). IsPlain x.status) (sym (is t)) tt)
       (OfFiles-map held (λ files. MakesSetup files i t.setup t.job) (λ files. IsAnswered files (Some c) (report t))
-        (λ files m. record {
-          answer = is t ∙ sym (over files ∙ m.answer (λ s job. answer Done (text s job)));
-          rests = rests files t m.inputs;
-        })
-        made)
+      (λ files m. record {
+        answer = is t ∙ sym (over files ∙ m.answer (λ s job. answer Done (text s job)));
+        rests = rests files t m.inputs;
+      })
+      made)
 
   fault_of : (line : List ℕ) (f : FileKind × List ℕ) → IsInputFault held i f.0 line → IsFaultOf held c f.0 line
   fault_of line f h = record {

@@ -62,7 +62,7 @@ module _ (held : Option Files) (said : List (List ℕ)) (due : Due) (ended : Sta
     (h : IsDueOf held (command_of said) due) (d : Delivers due ended old new before now) where
   -- the call ended as it was due, unless the sink failed or memory for a line was wanting
   ended-as_due : ended ≢ WriteFault → ended ≢ Memory → ended ≡ (due_answer due).status
-  ended-as_due sound enough = elim d [ | inl done ↦ done.0 | inr (inl failed) ↦ absurd (sound failed.0) | inr (inr wanting) ↦ absurd (enough wanting.0) ]
+  ended-as_due sound enough = elim d [ inl done ↦ done.0 | inr (inl failed) ↦ absurd (sound failed.0) | inr (inr wanting) ↦ absurd (enough wanting.0) ]
 
   due_if_taken : (files : Contents) → (ended ≡ Done → DueHolds due) → ended ≡ (due_answer due).status → Takes old new (due_answer due).text
       → IsAnswered files (command_of said) due → IsDue said ended old new files
@@ -77,12 +77,12 @@ module _ (held : Option Files) (said : List (List ℕ)) (due : Due) (ended : Sta
   -- an outcome that was delivered is what was due
   pub due_if_delivered : (ended ≡ Done → DueHolds due) → IsDecided ended → OfFiles held (IsDue said ended old new)
   due_if_delivered holds decided = elim d [
-      | inl done ↦
-          OfFiles-map held (λ files. IsAnswered files (command_of said) due) (IsDue said ended old new)
-          (λ files is. due_if_taken files holds done.0 done.1 is) (h.outcome (subst IsDecided done.0 decided))
-      | inr (inl failed) ↦ absurd (subst IsDecided failed.0 decided)
-      | inr (inr wanting) ↦ absurd (subst IsDecided wanting.0 decided)
-    ]
+    | inl done ↦
+        OfFiles-map held (λ files. IsAnswered files (command_of said) due) (IsDue said ended old new)
+        (λ files is. due_if_taken files holds done.0 done.1 is) (h.outcome (subst IsDecided done.0 decided))
+    | inr (inl failed) ↦ absurd (subst IsDecided failed.0 decided)
+    | inr (inr wanting) ↦ absurd (subst IsDecided wanting.0 decided)
+  ]
 
   -- a front of the outcome
   front_if_decided : TakesFront old new (due_answer due).text → IsDecided (due_answer due).status → WritesDueFront held said old new
@@ -109,18 +109,18 @@ module _ (held : Option Files) (said : List (List ℕ)) (due : Due) (ended : Sta
     pub front_if_delivered : ended ≡ WriteFault → WritesDueFront held said old new ⊎ (P × WritesReadFaultFront held said old new)
     unfolding WritesFront
     front_if_delivered failed = elim d [
-        | inl done ↦ absurd (h.no_write (sym done.0 ∙ failed))
-        | inr (inl front) ↦ front_by (due_answer due).status refl (λ e. cc (sym failed ∙ silent (h.nothing e))) front.2
-        | inr (inr wanting) ↦ absurd (cc (sym failed ∙ wanting.0))
-      ]
+      | inl done ↦ absurd (h.no_write (sym done.0 ∙ failed))
+      | inr (inl front) ↦ front_by (due_answer due).status refl (λ e. cc (sym failed ∙ silent (h.nothing e))) front.2
+      | inr (inr wanting) ↦ absurd (cc (sym failed ∙ wanting.0))
+    ]
 
   -- the line of a failed read
   pub read_fault_if_delivered : ended ≡ ReadFault → WritesReadFault held said old new
   read_fault_if_delivered is = elim d [
-      | inl done ↦ ((due_answer due).text, h.read_fault (sym done.0 ∙ is), done.1)
-      | inr (inl failed) ↦ absurd (cc (sym is ∙ failed.0))
-      | inr (inr wanting) ↦ absurd (cc (sym is ∙ wanting.0))
-    ]
+    | inl done ↦ ((due_answer due).text, h.read_fault (sym done.0 ∙ is), done.1)
+    | inr (inl failed) ↦ absurd (cc (sym is ∙ failed.0))
+    | inr (inr wanting) ↦ absurd (cc (sym is ∙ wanting.0))
+  ]
 
   -- the command of rows in JSON
   streamed-report : IsStreamed due → IsStreamedReport (command_of said)
@@ -132,11 +132,11 @@ module _ (held : Option Files) (said : List (List ℕ)) (due : Due) (ended : Sta
   -- nothing for want of memory, or a front of rows in JSON
   pub silent_if_delivered : ended ≡ Memory → WritesWanting held said old new
   silent_if_delivered is = elim d [
-      | inl done ↦ inl (subst (λ (x : Due). Takes old new (due_answer x).text) (h.nothing (sym done.0 ∙ is)) done.1)
-      | inr (inl failed) ↦ absurd (cc (sym is ∙ failed.0))
-      | inr (inr wanting) ↦
-          inr (streamed-report wanting.1, front_if_decided wanting.2 (subst IsDecided (sym (streamed-done due wanting.1)) tt))
-    ]
+    | inl done ↦ inl (subst (λ (x : Due). Takes old new (due_answer x).text) (h.nothing (sym done.0 ∙ is)) done.1)
+    | inr (inl failed) ↦ absurd (cc (sym is ∙ failed.0))
+    | inr (inr wanting) ↦
+        inr (streamed-report wanting.1, front_if_decided wanting.2 (subst IsDecided (sym (streamed-done due wanting.1)) tt))
+  ]
 
   -- ---- the surfaces that were prepared
   module _ (steps steps' : ℕ) (risen : steps' ≡ steps + preparations due) where
@@ -146,13 +146,13 @@ module _ (held : Option Files) (said : List (List ℕ)) (due : Due) (ended : Sta
     pub no_report-no_steps : BeginsNoReport (command_of said) ended → steps' ≡ steps
     unfolding IsTrace
     no_report-no_steps none = elim (trace-or-none due) [
-        | inl is ↦ elim d [
-            | inl done ↦ absurd (subst (BeginsNoReport (command_of said)) (done.0 ∙ is.1) none)
-            | inr (inl failed) ↦ absurd (subst (BeginsNoReport (command_of said)) failed.0 none)
-            | inr (inr wanting) ↦ absurd (subst (BeginsNoReport (command_of said)) wanting.0 none (streamed-report wanting.1))
-          ]
-        | inr none_due ↦ unprepared none_due
+      | inl is ↦ elim d [
+        | inl done ↦ absurd (subst (BeginsNoReport (command_of said)) (done.0 ∙ is.1) none)
+        | inr (inl failed) ↦ absurd (subst (BeginsNoReport (command_of said)) failed.0 none)
+        | inr (inr wanting) ↦ absurd (subst (BeginsNoReport (command_of said)) wanting.0 none (streamed-report wanting.1))
       ]
+      | inr none_due ↦ unprepared none_due
+    ]
 
     prepares_by : (files : Contents) (c : Option Command) → IsTrace due → IsAnswered files c due → PreparesLens files c steps steps'
     unfolding IsTrace
@@ -168,11 +168,11 @@ module _ (held : Option Files) (said : List (List ℕ)) (due : Due) (ended : Sta
     pub prepares : Prepares held said steps steps'
     unfolding IsTrace
     prepares = elim (trace-or-none due) [
-        | inl is ↦
-            inr (OfFiles-map held (λ files. IsAnswered files (command_of said) due) (λ files. PreparesLens files (command_of said) steps steps')
-            (λ files a. prepares_by files (command_of said) is a) (h.outcome (subst IsDecided (sym is.1) tt)))
-        | inr none_due ↦ inl (unprepared none_due)
-      ]
+      | inl is ↦
+          inr (OfFiles-map held (λ files. IsAnswered files (command_of said) due) (λ files. PreparesLens files (command_of said) steps steps')
+          (λ files a. prepares_by files (command_of said) is a) (h.outcome (subst IsDecided (sym is.1) tt)))
+      | inr none_due ↦ inl (unprepared none_due)
+    ]
 
 -- ---- what the outside counted
 module _ (held : Option Files) (said : List (List ℕ)) (due : Due) (ended : Status) (old new : Option (List ℕ)) (before now : ℕ)
@@ -197,10 +197,10 @@ module _ (held : Option Files) (said : List (List ℕ)) (due : Due) (ended : Sta
   -- what is due in place of which memory was wanting is a report
   unlike : (s : Status) → s ≢ Done → ended ≢ s → ended ≢ WriteFault → (due_answer due).status ≢ s
   unlike s other not sound e = elim d [
-      | inl done ↦ not (done.0 ∙ e)
-      | inr (inl failed) ↦ sound failed.0
-      | inr (inr wanting) ↦ other (sym e ∙ streamed-done due wanting.1)
-    ]
+    | inl done ↦ not (done.0 ∙ e)
+    | inr (inl failed) ↦ sound failed.0
+    | inr (inr wanting) ↦ other (sym e ∙ streamed-done due wanting.1)
+  ]
 
   pub calm-counted : ended ≢ ReadFault → ended ≢ WriteFault → f' ≡ f
   calm-counted not sound = counts.calm (λ e. unlike ReadFault (λ o. cc) not sound (some-same e))
@@ -220,13 +220,13 @@ module _ (held : Option Files) (said : List (List ℕ)) (due : Due) (ended : Sta
 
   pub too_long-where : g + n * 16_777_216 < g' → (ended ≡ TooLong) ⊎ (ended ≡ WriteFault)
   too_long-where more = elim (is_too_long (due_answer due).status) [
-      | inl is ↦ elim d [
-          | inl done ↦ inl (done.0 ∙ is)
-          | inr (inl failed) ↦ inr failed.0
-          | inr (inr wanting) ↦ absurd (cc (sym is ∙ streamed-done due wanting.1))
-        ]
-      | inr not ↦ let w = counts.within (λ e. not (some-same e)) in absurd (omega (arith, more, w))
+    | inl is ↦ elim d [
+      | inl done ↦ inl (done.0 ∙ is)
+      | inr (inl failed) ↦ inr failed.0
+      | inr (inr wanting) ↦ absurd (cc (sym is ∙ streamed-done due wanting.1))
     ]
+    | inr not ↦ let w = counts.within (λ e. not (some-same e)) in absurd (omega (arith, more, w))
+  ]
 
   -- a report that is due is written where nothing of the outside fails
   complete_by : (files : Files) → held ≡ Some files → ¬ Rose f f' → (outcome (by_name files) said).status ≡ Done → ended ≡ (due_answer due).status
@@ -254,7 +254,7 @@ module _ (held : Option Files) (said : List (List ℕ)) (due : Due) (ended : Sta
       by : (o : Option Files) → held ≡ o → IsComplete o said ended
       by None told = tt
       by (Some files) told = λ done. elim d [
-          | inl ends ↦ complete_by files told calm done ends.0
-          | inr (inl failed) ↦ absurd (sound failed.1)
-          | inr (inr wanting) ↦ inr wanting.0
-        ]
+        | inl ends ↦ complete_by files told calm done ends.0
+        | inr (inl failed) ↦ absurd (sound failed.1)
+        | inr (inr wanting) ↦ inr wanting.0
+      ]

@@ -159,10 +159,10 @@ module _ (held : Option Files) (i : Inputs) where
   no_lens due none =
       makes_none held i Zmx i.zmx zmx_cause prescription due none
       (λ z hz.
-        let t = look-box held i.tol in
-        of_found held i z (look held i.agf) (look held i.job) t.0 hz (look-found held i.agf) (look-found held i.job) t.1
-        (ComesTo held i Zmx i.zmx zmx_cause prescription z)
-        (λ files h. λ go_on. (after_lens files i go_on, at_lens files i z held go_on h.zmx)))
+      let t = look-box held i.tol in
+      of_found held i z (look held i.agf) (look held i.job) t.0 hz (look-found held i.agf) (look-found held i.job) t.1
+      (ComesTo held i Zmx i.zmx zmx_cause prescription z)
+      (λ files h. λ go_on. (after_lens files i go_on, at_lens files i z held go_on h.zmx)))
       (some_files (λ files. (go_on : Setup → Job → Answer) → on_inputs (without Zmx files) i go_on ≡ answer Absent (absent_line Zmx)) (λ files go_on. refl))
       (λ text h. (0, (Zmx, i.zmx), omega arith, refl, h))
 
@@ -173,12 +173,12 @@ module _ (held : Option Files) (i : Inputs) where
         let t = look-box held i.tol in
         makes_none held i Agf i.agf agf_cause catalogue due none
         (λ a ha.
-          of_found held i (Some lens.0) a (look held i.job) t.0 lens.1 ha (look-found held i.job) t.1
-          (ComesTo held i Agf i.agf agf_cause catalogue a)
-          (λ files h. λ go_on. (after_book files i read go_on, at_book files i (Some lens.0) held go_on h.zmx read lens.0 refl lens.2 lens.3 a h.agf)))
+        of_found held i (Some lens.0) a (look held i.job) t.0 lens.1 ha (look-found held i.job) t.1
+        (ComesTo held i Agf i.agf agf_cause catalogue a)
+        (λ files h. λ go_on. (after_book files i read go_on, at_book files i (Some lens.0) held go_on h.zmx read lens.0 refl lens.2 lens.3 a h.agf)))
         (of_found held i (Some lens.0) (look held i.agf) (look held i.job) t.0 lens.1 (look-found held i.agf) (look-found held i.job) t.1
-          (λ files. (go_on : Setup → Job → Answer) → on_inputs (without Agf files) i go_on ≡ answer Absent (absent_line Agf))
-          (λ files h go_on. at_book (without Agf files) i (Some lens.0) held go_on h.zmx read lens.0 refl lens.2 lens.3 None refl))
+        (λ files. (go_on : Setup → Job → Answer) → on_inputs (without Agf files) i go_on ≡ answer Absent (absent_line Agf))
+        (λ files h go_on. at_book (without Agf files) i (Some lens.0) held go_on h.zmx read lens.0 refl lens.2 lens.3 None refl))
         (λ text h. (1, (Agf, i.agf), omega arith, refl, h))
 
     module _ (book : List Glass) (glasses : Gives held Agf i.agf agf_cause catalogue book) where
@@ -188,15 +188,17 @@ module _ (held : Option Files) (i : Inputs) where
           let t = look-box held i.tol in
           makes_none held i kind.Job i.job job_cause job_in due none
           (λ j hj.
-            of_found held i (Some lens.0) (Some glasses.0) j t.0 lens.1 glasses.1 hj t.1
-            (ComesTo held i kind.Job i.job job_cause job_in j)
-            (λ files h. λ go_on. (after_job files i read book go_on,
-              at_job files i (Some lens.0) held go_on h.zmx read lens.0 refl lens.2 lens.3 (Some glasses.0) h.agf
-              book glasses.0 refl glasses.2 glasses.3 j h.job)))
+          of_found held i (Some lens.0) (Some glasses.0) j t.0 lens.1 glasses.1 hj t.1
+          (ComesTo held i kind.Job i.job job_cause job_in j)
+          (λ files h. λ go_on. (
+            after_job files i read book go_on,
+            at_job files i (Some lens.0) held go_on h.zmx read lens.0 refl lens.2 lens.3 (Some glasses.0) h.agf
+                book glasses.0 refl glasses.2 glasses.3 j h.job,
+          )))
           (of_found held i (Some lens.0) (Some glasses.0) (look held i.job) t.0 lens.1 glasses.1 (look-found held i.job) t.1
-            (λ files. (go_on : Setup → Job → Answer) → on_inputs (without kind.Job files) i go_on ≡ answer Absent (absent_line kind.Job))
-            (λ files h go_on. at_job (without kind.Job files) i (Some lens.0) held go_on h.zmx read lens.0 refl lens.2 lens.3 (Some glasses.0) h.agf
-              book glasses.0 refl glasses.2 glasses.3 None refl))
+          (λ files. (go_on : Setup → Job → Answer) → on_inputs (without kind.Job files) i go_on ≡ answer Absent (absent_line kind.Job))
+          (λ files h go_on. at_job (without kind.Job files) i (Some lens.0) held go_on h.zmx read lens.0 refl lens.2 lens.3 (Some glasses.0) h.agf
+          book glasses.0 refl glasses.2 glasses.3 None refl))
           (λ text h. (2, (kind.Job, i.job), omega arith, refl, h))
 
       module _ (job : Job) (asked : Gives held kind.Job i.job job_cause job_in job) where
@@ -230,18 +232,20 @@ module _ (held : Option Files) (i : Inputs) where
         no_box_by (Some name) e due none =
             makes_none held i Tol name tol_cause (λ bytes. tolerance_box bytes (image_of read.lens)) due none
             (λ t ht.
-              of_found held i (Some lens.0) (Some glasses.0) (Some asked.0) t lens.1 glasses.1 asked.1 (subst (λ n. IsFoundBox held n t) (sym e) ht)
-              (ComesTo held i Tol name tol_cause (λ bytes. tolerance_box bytes (image_of read.lens)) t)
-              (λ files h. λ go_on. (λ box. after_box read book job go_on (Some box),
-                comes_to_box files t h go_on ∙ ap (λ n. on_box files (image_of read.lens) n (after_box read book job go_on)) e
-                ∙ box-at files name t (after_box read book job go_on) (subst (λ n. FindsBox files n t) e h.tol))))
+            of_found held i (Some lens.0) (Some glasses.0) (Some asked.0) t lens.1 glasses.1 asked.1 (subst (λ n. IsFoundBox held n t) (sym e) ht)
+            (ComesTo held i Tol name tol_cause (λ bytes. tolerance_box bytes (image_of read.lens)) t)
+            (λ files h. λ go_on. (
+              λ box. after_box read book job go_on (Some box),
+              comes_to_box files t h go_on ∙ ap (λ n. on_box files (image_of read.lens) n (after_box read book job go_on)) e
+                  ∙ box-at files name t (after_box read book job go_on) (subst (λ n. FindsBox files n t) e h.tol),
+            )))
             (of_found held i (Some lens.0) (Some glasses.0) (Some asked.0) (look held name) lens.1 glasses.1 asked.1
-              (subst (λ n. IsFoundBox held n (look held name)) (sym e) (look-found held name))
-              (λ files. (go_on : Setup → Job → Answer) → on_inputs (without Tol files) i go_on ≡ answer Absent (absent_line Tol))
-              (λ files h go_on.
-                at_box (without Tol files) i (Some lens.0) held go_on h.zmx read lens.0 refl lens.2 lens.3 (Some glasses.0) h.agf
-                book glasses.0 refl glasses.2 glasses.3 (Some asked.0) h.job job asked.0 refl asked.2 asked.3
-                ∙ ap (λ n. on_box (without Tol files) (image_of read.lens) n (after_box read book job go_on)) e))
+            (subst (λ n. IsFoundBox held n (look held name)) (sym e) (look-found held name))
+            (λ files. (go_on : Setup → Job → Answer) → on_inputs (without Tol files) i go_on ≡ answer Absent (absent_line Tol))
+            (λ files h go_on.
+            at_box (without Tol files) i (Some lens.0) held go_on h.zmx read lens.0 refl lens.2 lens.3 (Some glasses.0) h.agf
+            book glasses.0 refl glasses.2 glasses.3 (Some asked.0) h.job job asked.0 refl asked.2 asked.3
+            ∙ ap (λ n. on_box (without Tol files) (image_of read.lens) n (after_box read book job go_on)) e))
             (λ text h. any_box name e text h)
 
         pub no_box : (due : Due) → GivesNoBox held (image_of read.lens) i.tol due → MakesNone held i due

@@ -60,9 +60,9 @@ module _ (file : FileKind) (name : List ℕ) (due : Due) where
     calm = λ not. calm (λ is. not (ap Some (status-is fault e ∙ ap (λ x. (unread_answer file x).status) is)));
     found = λ not. found (λ is. not (ap Some (status-is fault e ∙ ap (λ x. (unread_answer file x).status) is)));
     within = λ not. elim (cases_lt (g + 16_777_216) g') [
-        | inl more ↦ absurd (not (ap Some (status-is fault e ∙ ap (λ x. (unread_answer file x).status) (where_long more))))
-        | inr no_more ↦ omega (arith, no_more)
-      ];
+      | inl more ↦ absurd (not (ap Some (status-is fault e ∙ ap (λ x. (unread_answer file x).status) (where_long more))))
+      | inr no_more ↦ omega (arith, no_more)
+    ];
     given_rises = rises;
   }
     where

@@ -79,28 +79,28 @@ module _ {V F : Type 0} (held : Option Files) (kind : FileKind) (name : List ℕ
 
   pub no_report : (due : Due) → GivesNone held kind name cause reading due → (due_answer due).status ≢ Done
   no_report due h e = elim (stop_status due h) [
-      | inl m ↦ cc (sym e ∙ m.0)
-      | inr (inl f) ↦ cc (sym e ∙ f.0)
-      | inr (inr r) ↦ subst IsRefusal e r
-    ]
+    | inl m ↦ cc (sym e ∙ m.0)
+    | inr (inl f) ↦ cc (sym e ∙ f.0)
+    | inr (inr r) ↦ subst IsRefusal e r
+  ]
 
   pub no_write : (due : Due) → GivesNone held kind name cause reading due → (due_answer due).status ≢ WriteFault
   no_write due h e = elim (stop_status due h) [
-      | inl m ↦ cc (sym e ∙ m.0)
-      | inr (inl f) ↦ cc (sym e ∙ f.0)
-      | inr (inr r) ↦ subst IsRefusal e r
-    ]
+    | inl m ↦ cc (sym e ∙ m.0)
+    | inr (inl f) ↦ cc (sym e ∙ f.0)
+    | inr (inr r) ↦ subst IsRefusal e r
+  ]
 
   pub is_nothing : (due : Due) → GivesNone held kind name cause reading due → (due_answer due).status ≡ Memory → due ≡ Nothing
   is_nothing due h e = elim (stop_status due h) [
-      | inl m ↦ m.1
-      | inr (inl f) ↦ absurd (cc (sym e ∙ f.0))
-      | inr (inr r) ↦ absurd (subst IsRefusal e r)
-    ]
+    | inl m ↦ m.1
+    | inr (inl f) ↦ absurd (cc (sym e ∙ f.0))
+    | inr (inr r) ↦ absurd (subst IsRefusal e r)
+  ]
 
   pub fault_line : (due : Due) → GivesNone held kind name cause reading due → (due_answer due).status ≡ ReadFault → (due_answer due).text ≡ read_fault_line kind
   fault_line due h e = elim (stop_status due h) [
-      | inl m ↦ absurd (cc (sym e ∙ m.0))
-      | inr (inl f) ↦ f.1
-      | inr (inr r) ↦ absurd (subst IsRefusal e r)
-    ]
+    | inl m ↦ absurd (cc (sym e ∙ m.0))
+    | inr (inl f) ↦ f.1
+    | inr (inr r) ↦ absurd (subst IsRefusal e r)
+  ]

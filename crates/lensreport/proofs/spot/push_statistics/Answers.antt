@@ -11,6 +11,6 @@ returns-in-Val-clause-bytes c =
 pub returns-in-Empty-clause-bytes : goal.returns-in-Empty-clause-bytes
 returns-in-Empty-clause-bytes c =
     elim c.in-Empty.is [
-      inl e ↦ rw (c.push_str.ensures.bytes, e) refl
+      | inl e ↦ rw (c.push_str.ensures.bytes, e) refl
       | inr w ↦ rw (c.push_str.ensures.bytes, w.1) refl
     ]

@@ -29,9 +29,11 @@ returns-in_err-job-clause-none g c =
     (rw (c.in_ok-book.ensures.held, c.in_ok-file.ensures.held) at c.in_err-job.ensures.none))
 
 pub returns-in_err-job-clause-asks : goal.returns-in_err-job-clause-asks
-returns-in_err-job-clause-asks g c =
-    (3, Takes-trans _ _ _ (c.args.names.now.lens.now ∷ c.args.names.now.catalogue.now ∷ []) (c.args.names.now.job.now ∷ [])
-    (Takes-trans _ _ _ (c.args.names.now.lens.now ∷ []) (c.args.names.now.catalogue.now ∷ []) c.in_ok-file.ensures.asks c.in_ok-book.ensures.asks) c.in_err-job.ensures.asks)
+returns-in_err-job-clause-asks g c = (
+  3,
+  Takes-trans _ _ _ (c.args.names.now.lens.now ∷ c.args.names.now.catalogue.now ∷ []) (c.args.names.now.job.now ∷ [])
+      (Takes-trans _ _ _ (c.args.names.now.lens.now ∷ []) (c.args.names.now.catalogue.now ∷ []) c.in_ok-file.ensures.asks c.in_ok-book.ensures.asks) c.in_err-job.ensures.asks,
+)
 
 pub returns-in_err-job-clause-counts : goal.returns-in_err-job-clause-counts
 returns-in_err-job-clause-counts g c =
