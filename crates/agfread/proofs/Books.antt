@@ -11,10 +11,6 @@ use Rattle.agfread.specs.Walked.{is_none, with_glass}
 pub same_name-back : (a b : List ℕ) → same_name a b ≡ true → same_name b a ≡ true
 same_name-back a b h = same-of (map upper b) (map upper a) (sym (same-yes (map upper a) (map upper b) h))
 
--- names equal to a name are equal to the same names
-pub same_name-along : (a b c : List ℕ) → same_name a b ≡ true → same_name a c ≡ same_name b c
-same_name-along a b c h = ap (λ (x : List ℕ). pointwise nat_eq x (map upper c)) (same-yes (map upper a) (map upper b) h)
-
 pub not_back : (a b : List ℕ) → same_name a b ≡ false → same_name b a ≡ false
 not_back a b h = elim (same_name b a) as (λ v. same_name b a ≡ v → v ≡ false) [
   | true ↦ (λ t. absurd (true≢false (sym (same_name-back b a t) ∙ h)))

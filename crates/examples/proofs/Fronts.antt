@@ -1,6 +1,6 @@
 -- A chain to a surface holds every chain to a surface before it.
 use Rattle.std.proofs.Common.{◌≡◌, ℕ, suc, ◌<◌, arith, ◌⊎◌, inl, inr, subst}
-use Rattle.examples.specs.ChainLaws.{ReachesBefore, LeavesBefore, WholeReaches, WholeLeaves, ReachesNext, VignettedExcludes, OutsideExcludes, TirExcludes}
+use Rattle.examples.specs.ChainLaws.{ReachesBefore, LeavesBefore, WholeReaches, WholeLeaves, ReachesNext}
 use Rattle.lensmodel.specs.Equations.Crossing.{Transfers, Crosses}
 
 pub reaches_before : ReachesBefore
@@ -36,12 +36,3 @@ reaches_next s ray c j h t x = record {
   crossing = λ i lt. elim (below_or_at i j lt) [ inl l ↦ h.reaches.crossing i l | inr e ↦ subst (λ k. Crosses s c k) e x ];
   bending = λ i lt. h.leaves i (omega arith);
 }
-
-pub vignetted_excludes : VignettedExcludes
-vignetted_excludes s ray j le word c whole clears = word c (whole_reaches s ray c j le whole) (clears j le)
-
-pub outside_excludes : OutsideExcludes
-outside_excludes s ray j le word c whole = word c (whole_reaches s ray c j le whole)
-
-pub tir_excludes : TirExcludes
-tir_excludes s ray j lt word c whole = word c (whole_leaves s ray c j lt whole)

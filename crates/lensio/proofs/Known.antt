@@ -1,40 +1,8 @@
 -- Bytes that are known over several calls of a reader or a writer.
-use Rattle.std.proofs.Common.{◌∙◌, ℕ, List, ◌++◌, append-nil, sym, ap}
+use Rattle.std.proofs.Common.{◌∙◌, ℕ, List, append-nil, sym}
 use Rattle.std.specs.Prelude.{Option, Some, None, IsSome, Result, Ok, Err, IfOk, OnErr, take, refl}
-use Rattle.std.specs.Io.KnownBytes.{Keeps, Appends, Consumes, WriteAppends, ReadConsumes}
+use Rattle.std.specs.Io.KnownBytes.{Keeps, Appends, WriteAppends}
 use Rattle.lensio.specs.Taken.{Takes, TakesFront}
-
-pub Keeps-refl : (a : Option (List ℕ)) → Keeps a a
-Keeps-refl None = tt
-Keeps-refl (Some xs) = refl
-
-pub Keeps-trans : (a b c : Option (List ℕ)) → Keeps a b → Keeps b c → Keeps a c
-Keeps-trans None b c p q = tt
-Keeps-trans (Some x) None c p q = absurd p
-Keeps-trans (Some x) (Some y) None p q = absurd q
-Keeps-trans (Some x) (Some y) (Some z) p q = q ∙ p
-
-Appends-kept : (a b c : Option (List ℕ)) (bs : List ℕ) → Keeps a b → Appends b c bs → Appends a c bs
-Appends-kept None b c bs p q = tt
-Appends-kept (Some x) None c bs p q = absurd p
-Appends-kept (Some x) (Some y) None bs p q = absurd q
-Appends-kept (Some x) (Some y) (Some z) bs p q = q ∙ ap (λ l. l ++ bs) p
-
-Consumes-kept : (a b c : Option (List ℕ)) (bs : List ℕ) → Keeps a b → Consumes b c bs → Consumes a c bs
-Consumes-kept None b c bs p q = tt
-Consumes-kept (Some x) None c bs p q = absurd p
-Consumes-kept (Some x) (Some y) None bs p q = absurd q
-Consumes-kept (Some x) (Some y) (Some z) bs p q = sym p ∙ q
-
--- a write after calls that wrote nothing
-pub WriteAppends-kept : {E : Type 0} (a b c : Option (List ℕ)) (r : Result ℕ E) (buf : List ℕ) → Keeps a b → WriteAppends b c r buf → WriteAppends a c r buf
-WriteAppends-kept a b c (Ok n) buf p q = Appends-kept a b c (take n buf) p q
-WriteAppends-kept a b c (Err e) buf p q = Keeps-trans a b c p q
-
--- a read after calls that read nothing
-pub ReadConsumes-kept : {E : Type 0} (a b c : Option (List ℕ)) (r : Result ℕ E) (buf : List ℕ) → Keeps a b → ReadConsumes b c r buf → ReadConsumes a c r buf
-ReadConsumes-kept a b c (Ok n) buf p q = (Consumes-kept a b c (take n buf) p q.0, q.1)
-ReadConsumes-kept a b c (Err e) buf p q = Keeps-trans a b c p q
 
 -- bytes that a writer tells at each time, or at none
 told_bytes : (a b : Option (List ℕ)) (bs : List ℕ) → (IsSome b → IsSome a) → Appends a b bs → Takes a b bs

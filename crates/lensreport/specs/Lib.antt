@@ -1,4 +1,3 @@
 pub mod JsonData
 pub mod Spots
 pub mod Totals
-pub mod UnusedTags

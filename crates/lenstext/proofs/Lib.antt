@@ -1,5 +1,4 @@
 pub mod Units
-pub mod Surrogates
 pub mod Lines
 pub mod Words
 pub mod Cutting

@@ -8,10 +8,6 @@ pub length-cut : (from : ℕ) (us ends : List ℕ) → length (cut from us ends)
 length-cut from us [] = refl
 length-cut from us (end ∷ ends) = ap suc (length-cut end us ends)
 
-pub start_of-later : (from : ℕ) (ends : List ℕ) (i : ℕ) → 0 < i → start_of from ends i ≡ get_or ends (i - 1) 0
-start_of-later from ends zero h = absurd (omega arith)
-start_of-later from ends (suc i) h = ap (λ (k : ℕ). get_or ends k 0) (let e : i ≡ suc i - 1 = omega arith in e)
-
 start_of-next : (from end : ℕ) (ends : List ℕ) (i : ℕ) → start_of end ends i ≡ start_of from (end ∷ ends) (suc i)
 start_of-next from end ends zero = refl
 start_of-next from end ends (suc i) = refl

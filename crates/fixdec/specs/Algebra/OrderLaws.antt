@@ -4,7 +4,7 @@ use Rattle.std.proofs.lemmas.Int.{ints, by_lt_z}
 use Rattle.std.specs.Prelude.{ℤ, pos, ◌+ℤ◌, ◌-ℤ◌, ◌*ℤ◌, ◌<ℤ◌}
 use lib.IntN.{neg_ℤ}
 use Rattle.fixdec.specs.Frac.{Frac, den, ◌≈◌, ◌≤Q◌, ◌<Q◌, ◌+Q◌, ◌*Q◌, ◌-Q◌, neg_Q, whole}
-use Rattle.fixdec.specs.Algebra.FracLaws.{Q-IsRing, ≈_refl, ≈_sym, ≈_trans}
+use Rattle.fixdec.specs.Algebra.FracLaws.{Q-IsRing, ≈_refl, ≈_sym}
 use Rattle.fixdec.specs.Algebra.Order.{nn_in, nn_out, nn_whole, nn_times, le_cases, le_trans, le_of_same, le_whole, le_whole_out}
 use Rattle.fixdec.specs.Algebra.Linear.{linear, linear_le, fact, name, order, no_fact, reads}
 use Rattle.fixdec.specs.Algebra.Inverse.{inverse, inverse_is, inverse_nn}
@@ -44,17 +44,9 @@ le_same_left p h = le_trans (le_of_same p) h
 pub le_same_right : {a b c : Frac} → a ≤Q b → b ≈ c → a ≤Q c
 le_same_right h p = le_trans h (le_of_same p)
 
-pub le_antisym : {a b : Frac} → a ≤Q b → b ≤Q a → a ≈ b
-le_antisym p q = record { cross = let l = p.cross in let m = q.cross in omega (arith, ints) }
-
 -- ---- sums and differences
 pub le_add : {a b c d : Frac} → a ≤Q b → c ≤Q d → a +Q c ≤Q b +Q d
 le_add {a} {b} {c} {d} p q =
-    linear_le (a ∷ b ∷ c ∷ d ∷ []) _ _ (search reads depth 12)
-    (order zero_le_one p (search reads depth 12) (order zero_le_one q (search reads depth 12) no_fact)) tt
-
-pub le_sub : {a b c d : Frac} → a ≤Q b → c ≤Q d → a -Q d ≤Q b -Q c
-le_sub {a} {b} {c} {d} p q =
     linear_le (a ∷ b ∷ c ∷ d ∷ []) _ _ (search reads depth 12)
     (order zero_le_one p (search reads depth 12) (order zero_le_one q (search reads depth 12) no_fact)) tt
 
@@ -66,29 +58,12 @@ add_nn {a} {b} p q =
     linear_le (a ∷ b ∷ []) _ _ (search reads depth 12)
     (order zero_le_one p (search reads depth 12) (order zero_le_one q (search reads depth 12) no_fact)) tt
 
--- what is added on both sides cancels
-pub le_add_cancel : {a b : Frac} (c : Frac) → a +Q c ≤Q b +Q c → a ≤Q b
-le_add_cancel {a} {b} c p = linear_le (a ∷ b ∷ c ∷ []) _ _ (search reads depth 12) (order zero_le_one p (search reads depth 12) no_fact) tt
-
--- an order says the same as that its difference isn't negative
-pub le_from_sub : {a b : Frac} → whole (pos 0) ≤Q b -Q a → a ≤Q b
-le_from_sub {a} {b} p = linear_le (a ∷ b ∷ []) _ _ (search reads depth 12) (order zero_le_one p (search reads depth 12) no_fact) tt
-
-pub sub_nn : {a b : Frac} → a ≤Q b → whole (pos 0) ≤Q b -Q a
-sub_nn {a} {b} p = linear_le (a ∷ b ∷ []) _ _ (search reads depth 12) (order zero_le_one p (search reads depth 12) no_fact) tt
-
 -- ---- products
 pub le_mul : {a b : Frac} (k : Frac) → whole (pos 0) ≤Q k → a ≤Q b → a *Q k ≤Q b *Q k
 le_mul {a} {b} k n p = linear_le (a ∷ b ∷ k ∷ []) _ _ (search reads depth 12) (order n p (search reads depth 12) no_fact) tt
 
 pub le_mul_left : {a b : Frac} (k : Frac) → whole (pos 0) ≤Q k → a ≤Q b → k *Q a ≤Q k *Q b
 le_mul_left {a} {b} k n p = linear_le (a ∷ b ∷ k ∷ []) _ _ (search reads depth 12) (order n p (search reads depth 12) no_fact) tt
-
--- a factor that isn't positive turns the order
-pub le_mul_neg : {a b : Frac} (k : Frac) → k ≤Q whole (pos 0) → a ≤Q b → b *Q k ≤Q a *Q k
-le_mul_neg {a} {b} k n p =
-    let m : whole (pos 0) ≤Q neg_Q k = linear_le (k ∷ []) _ _ (search reads depth 12) (order zero_le_one n (search reads depth 12) no_fact) tt in
-    linear_le (a ∷ b ∷ k ∷ []) _ _ (search reads depth 12) (order m p (search reads depth 12) no_fact) tt
 
 pub le_mul_both : {a b c d : Frac} → whole (pos 0) ≤Q a → whole (pos 0) ≤Q d → a ≤Q b → c ≤Q d → a *Q c ≤Q b *Q d
 le_mul_both {a} {b} {c} {d} n m p q = le_trans (le_mul_left a n q) (le_mul d m p)
@@ -137,9 +112,6 @@ lt_whole_out {a} {b} h = by_lt_z a b (λ l. l) (λ l. absurd (lt_not_le h (le_wh
 pub pos_nonzero : {a : Frac} → whole (pos 0) <Q a → a ≈ whole (pos 0) → ⊥
 pos_nonzero p e = lt_not_le p (le_of_same e)
 
-pub neg_nonzero : {a : Frac} → a <Q whole (pos 0) → a ≈ whole (pos 0) → ⊥
-neg_nonzero p e = lt_not_le p (le_of_same (≈_sym e))
-
 -- ---- cancelling
 -- a positive factor cancels
 pub le_cancel : {a b : Frac} (k : Frac) → whole (pos 0) <Q k → a *Q k ≤Q b *Q k → a ≤Q b
@@ -165,10 +137,6 @@ same_cancel {a} {b} k p h =
 pub mul_pos : {a b : Frac} → whole (pos 0) <Q a → whole (pos 0) <Q b → whole (pos 0) <Q a *Q b
 mul_pos {a} {b} p q =
     lt_from_not (λ r. lt_not_le p (le_cancel b q (le_trans r (le_of_same (≈_sym (Q-IsRing.zero_mul b))))))
-
--- a product is 0 only where a factor is
-pub mul_nonzero : {a b : Frac} → (a ≈ whole (pos 0) → ⊥) → (b ≈ whole (pos 0) → ⊥) → a *Q b ≈ whole (pos 0) → ⊥
-mul_nonzero {a} {b} p q h = p (same_cancel b q (≈_trans h (≈_sym (Q-IsRing.zero_mul b))))
 
 -- where squares are in order, so are numbers that aren't negative
 pub le_of_squares : {a b : Frac} → whole (pos 0) ≤Q a → whole (pos 0) ≤Q b → a *Q a ≤Q b *Q b → a ≤Q b

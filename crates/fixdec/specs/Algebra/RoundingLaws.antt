@@ -133,13 +133,6 @@ ceil_is n d h =
           omega (arith, ints);
     }
 
--- only one number is the floor, and one the ceiling
-pub floor_unique : {x : Frac} {y z : ℤ} → IsFloor x y → IsFloor x z → y ≡ z
-floor_unique {x} {y} {z} p q = let a = q.greatest y p.below in let b = p.greatest z q.below in omega (arith, ints)
-
-pub ceil_unique : {x : Frac} {y z : ℤ} → IsCeil x y → IsCeil x z → y ≡ z
-ceil_unique {x} {y} {z} p q = let a = q.least y p.above in let b = p.least z q.above in omega (arith, ints)
-
 -- ---- under a divisor above 0
 -- where m is at most x d, floor (m / d) is at most x
 pub floor_under : (m d : ℤ) (x : Frac) → pos 0 <ℤ d → whole m ≤Q x *Q whole d → whole (floor m d) ≤Q x

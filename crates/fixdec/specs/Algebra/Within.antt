@@ -77,13 +77,6 @@ within_cancel {p} {x} k n h = record {
   below = le_cancel k n (linear_le (x ∷ p ∷ k ∷ []) _ _ (search reads depth 12) (order zero_le_one h.below (search reads depth 12) no_fact) tt);
 }
 
--- two numbers that are within p of each other, each way
-pub within_turn : {p : Frac} (x y : Frac) → HasSize p (x -Q y) → HasSize p (y -Q x)
-within_turn {p} x y h = record {
-  above = linear_le (x ∷ p ∷ y ∷ []) _ _ (search reads depth 12) (order zero_le_one h.below (search reads depth 12) no_fact) tt;
-  below = linear_le (x ∷ p ∷ y ∷ []) _ _ (search reads depth 12) (order zero_le_one h.above (search reads depth 12) no_fact) tt;
-}
-
 -- a whole number is within its size
 pub within_whole : (k : ℤ) → HasSize (whole (pos (unsigned_abs k))) (whole k)
 within_whole k = record {

@@ -1,10 +1,10 @@
 -- A glass catalogue: which lines offend, and the book of glasses that the lines make. A line is its list of words.
 -- Cited by the reader of catalogues and by the outcome of a call.
-use Rattle.std.specs.Prelude.{ℕ, suc, ℤ, Bool, true, ◌||◌, nat_eq, nat_le, nat_lt, List, [], ◌∷◌, length, take, drop, codes, Option, Some, None, Result, if◌then◌else◌}
+use Rattle.std.specs.Prelude.{ℕ, suc, Bool, true, ◌||◌, nat_eq, nat_le, nat_lt, List, [], ◌∷◌, length, take, drop, codes, Option, Some, None, Result, if◌then◌else◌}
 use Rattle.fixdec.specs.Decimal.{Decimal}
 use Rattle.fixdec.specs.Reading.{decimal_of}
 use Rattle.lensmodel.specs.Files.Causes.{or_first, fault_if, bad_unless, ok_unless}
-use Rattle.lensmodel.specs.Files.Records.{Words, has_tag, lacks, word_at, last_where, count_where, number_to, whole_word, number_or_0, decimal_at, each_words, block_before, each_block, first_offence as first_of, said_by}
+use Rattle.lensmodel.specs.Files.Records.{Words, has_tag, lacks, word_at, last_where, count_where, whole_word, number_or_0, decimal_at, each_words, block_before, each_block, first_offence as first_of, said_by}
 use Rattle.lensmodel.specs.Files.TextLines.{text}
 use Rattle.lensmodel.specs.Setup.Media.{same_name}
 use Rattle.lensmodel.specs.Setup.Values.{zero_decimal}
@@ -21,10 +21,6 @@ is_CD line = has_tag (codes "CD") line
 
 abbrev pub is_LD : Words → Bool
 is_LD line = has_tag (codes "LD") line
-
--- a whole number from 0 to 99
-abbrev pub small_number : Option ℤ → Option ℕ
-small_number z = number_to 99 z
 
 -- the formula number of a word: a decimal whose value is a whole number from 0 to 99
 abbrev pub formula_of : List ℕ → Option ℕ

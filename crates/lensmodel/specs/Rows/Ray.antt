@@ -23,11 +23,6 @@ abbrev pub row_with : Option TolBox → Setup → Launch → Row
 row_with None s ray = row_by operations s ray
 row_with (Some box) s ray = row_by linear_operations s ray
 
--- the outcome at one scale
-abbrev pub outcome_with : Option TolBox → ℕ → Setup → Launch → Outcome
-outcome_with None scale s ray = outcome_at (operations scale) scale s ray
-outcome_with (Some box) scale s ray = outcome_at (linear_operations scale) scale s ray
-
 -- the row of a ray
 unfoldable pub row : Setup → Launch → Row
 row s ray = row_with s.toler s ray
