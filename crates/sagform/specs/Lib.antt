@@ -8,6 +8,7 @@ pub mod PreparationLaws
 pub mod PreparedValues
 pub mod ResidualLaws
 pub mod SagLaws
+pub mod Samples
 pub mod Setups
 pub mod SymbolLaws
 pub mod Terms

@@ -8,7 +8,7 @@ use Rattle.lensmodel.specs.Equations.Dispersion.{IsKnown}
 use Rattle.lensmodel.specs.Files.Causes.{fault_if, first_fault}
 use Rattle.lensmodel.specs.Setup.Media.{medium_at}
 use Rattle.lensmodel.specs.Setup.Values.{surface_at, image, owner, reflects, plane}
-use Rattle.lensmodel.specs.Setup.WellFormed.{IsWellFormed, IsWrittenSurface}
+use Rattle.lensmodel.specs.Setup.WellFormed.{IsWellFormed}
 use Rattle.lensmodel.specs.Setup.WholeFaults.{whole_fault, whole_faults, faults_from, surface_faults, asphere_faults, is_great}
 use Rattle.lensmodel.specs.Setup.Zones.{zone_if, scaled_coefficient}
 use Rattle.lensmodel.specs.declared.fault.ZmxFault.{ZmxFault}
@@ -86,10 +86,6 @@ zoned_in (f ∷ fs) stop j l h =
 pub well_zoned : (s : Setup) (j : ℕ) → IsWellFormed s → suc j < length s.lens.surfaces.items → IsZoned (surface_at s (suc j))
 unfolding whole_fault
 well_zoned s j w l = zoned_in s.lens.surfaces.items s.lens.stop j l w.lens.whole
-
--- its numbers are written ones
-pub well_written : (s : Setup) (j : ℕ) → IsWellFormed s → j < length s.lens.surfaces.items → IsWrittenSurface (surface_at s j)
-well_written s j w l = All-get_or IsWrittenSurface s.lens.surfaces.items j plane l w.lens.written.surfaces
 
 -- ---- media
 owner_next : (b : Bool) (i j : ℕ) → i ≤ j → (if b then i else suc j) ≤ suc j

@@ -9,6 +9,7 @@ use exactdec::scale;
 use fixdec::dec::Dec;
 use fixdec::div::pow10;
 use fixdec::step::Step;
+use fixdec::val;
 
 /// A decimal as a value.
 pub fn decimal<T: Arith>(v: &Dec) -> Step<T>

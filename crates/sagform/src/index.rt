@@ -11,6 +11,7 @@ use enclose::arith::Arith;
 use fixdec::dec::Dec;
 use fixdec::span::Span;
 use fixdec::step::Step;
+use fixdec::val;
 use lensmodel::glass::{Glass, Medium};
 
 /// Schott's formula at the square `v` of the wavelength.

@@ -33,6 +33,7 @@ use exactdec::zone::{norm_of, zone_of};
 use fixdec::dec::Dec;
 use fixdec::span::Span;
 use fixdec::step::Step;
+use fixdec::val;
 use lensmodel::glass::Medium;
 use lensmodel::setup::Setup;
 use lensmodel::surface::{Surface, SurfaceKind};

@@ -13,6 +13,7 @@ use crate::ray::Hit;
 use crate::terms::Terms;
 use enclose::arith::Arith;
 use fixdec::step::Step;
+use fixdec::val;
 use lensmodel::surface::SurfaceKind;
 
 /// `f = wd(c*rho)`, twice the sag of the paraxial sphere.

@@ -17,6 +17,9 @@ use std::process::Abort;
 use std::sync::ledger::{Blank, Ledger};
 use std::test::Fail;
 
+mod lenses;
+mod surfaces;
+
 fn dec(mant: i64, exp: i32) -> Dec
     requires low { negsuc 107 ≤ℤ exp }
     requires high { exp ≤ℤ pos 78 }

@@ -5,81 +5,81 @@ use Rattle.lensmodel.specs.Rows.Preparation.{preparation_rows, preparation_by}
 use Rattle.sagform.specs.Setups.{well_zoned}
 use Rattle.sagform.proofs.prepare.rows_of.Goals as goal
 
-pub returns-in-Empty : goal.returns-in-Empty
-unfolding preparation_rows preparation_by
-returns-in-Empty g c = rw (← c.in-Empty.ensures) refl
-
-pub returns-in-Lost : goal.returns-in-Lost
-unfolding preparation_rows preparation_by
-returns-in-Lost g c = rw (← c.in-Lost.ensures) refl
-
-pub returns-in-Empty-curvature : goal.returns-in-Empty-curvature
-unfolding preparation_rows preparation_by
-returns-in-Empty-curvature g c = rw (← c.in-Val.ensures, ← (rw c.requires.next at c.in-Empty-curvature.ensures)) refl
-
-pub returns-in-Lost-curvature : goal.returns-in-Lost-curvature
-unfolding preparation_rows preparation_by
-returns-in-Lost-curvature g c = rw (← c.in-Val.ensures, ← (rw c.requires.next at c.in-Lost-curvature.ensures)) refl
-
-pub returns-in-Empty-conic_factor : goal.returns-in-Empty-conic_factor
-unfolding preparation_rows preparation_by
-returns-in-Empty-conic_factor g c = rw (← c.in-Val.ensures, ← (rw c.requires.next at c.in-Val-curvature.ensures), ← (rw c.requires.next at c.in-Empty-conic_factor.ensures)) refl
-
-pub returns-in-Lost-conic_factor : goal.returns-in-Lost-conic_factor
-unfolding preparation_rows preparation_by
-returns-in-Lost-conic_factor g c = rw (← c.in-Val.ensures, ← (rw c.requires.next at c.in-Val-curvature.ensures), ← (rw c.requires.next at c.in-Lost-conic_factor.ensures)) refl
-
-pub returns-in-Empty-times : goal.returns-in-Empty-times
-unfolding preparation_rows preparation_by
-returns-in-Empty-times g c = rw (← c.in-Val.ensures, ← (rw c.requires.next at c.in-Val-curvature.ensures), ← (rw c.requires.next at c.in-Val-conic_factor.ensures), ← c.in-Empty-times.ensures) refl
-
-pub returns-in-Lost-times : goal.returns-in-Lost-times
-unfolding preparation_rows preparation_by
-returns-in-Lost-times g c = rw (← c.in-Val.ensures, ← (rw c.requires.next at c.in-Val-curvature.ensures), ← (rw c.requires.next at c.in-Val-conic_factor.ensures), ← c.in-Lost-times.ensures) refl
-
-pub returns-in-Empty-index_behind : goal.returns-in-Empty-index_behind
-unfolding preparation_rows preparation_by
-returns-in-Empty-index_behind g c = rw (← c.in-Val.ensures, ← (rw c.requires.next at c.in-Val-curvature.ensures), ← (rw c.requires.next at c.in-Val-conic_factor.ensures), ← c.in-Val-times.ensures, ← c.in-Empty-index_behind.ensures) refl
-
-pub returns-in-Lost-index_behind : goal.returns-in-Lost-index_behind
-unfolding preparation_rows preparation_by
-returns-in-Lost-index_behind g c = rw (← c.in-Val.ensures, ← (rw c.requires.next at c.in-Val-curvature.ensures), ← (rw c.requires.next at c.in-Val-conic_factor.ensures), ← c.in-Val-times.ensures, ← c.in-Lost-index_behind.ensures) refl
-
-pub returns-in-Empty-index_if : goal.returns-in-Empty-index_if
-unfolding preparation_rows preparation_by
-returns-in-Empty-index_if g c = rw (← c.in-Val.ensures, ← (rw c.requires.next at c.in-Val-curvature.ensures), ← (rw c.requires.next at c.in-Val-conic_factor.ensures), ← c.in-Val-times.ensures, ← c.in-Val-index_behind.ensures, ← (rw c.requires.next at c.in-Empty-index_if.ensures)) refl
-
-pub returns-in-Lost-index_if : goal.returns-in-Lost-index_if
-unfolding preparation_rows preparation_by
-returns-in-Lost-index_if g c = rw (← c.in-Val.ensures, ← (rw c.requires.next at c.in-Val-curvature.ensures), ← (rw c.requires.next at c.in-Val-conic_factor.ensures), ← c.in-Val-times.ensures, ← c.in-Val-index_behind.ensures, ← (rw c.requires.next at c.in-Lost-index_if.ensures)) refl
-
-pub returns-in-Empty-rim2 : goal.returns-in-Empty-rim2
-unfolding preparation_rows preparation_by
-returns-in-Empty-rim2 g c = rw (← c.in-Val.ensures, ← (rw c.requires.next at c.in-Val-curvature.ensures), ← (rw c.requires.next at c.in-Val-conic_factor.ensures), ← c.in-Val-times.ensures, ← c.in-Val-index_behind.ensures, ← (rw c.requires.next at c.in-Val-index_if.ensures), ← (rw c.requires.next at c.in-Empty-rim2.ensures)) refl
-
-pub returns-in-Lost-rim2 : goal.returns-in-Lost-rim2
-unfolding preparation_rows preparation_by
-returns-in-Lost-rim2 g c = rw (← c.in-Val.ensures, ← (rw c.requires.next at c.in-Val-curvature.ensures), ← (rw c.requires.next at c.in-Val-conic_factor.ensures), ← c.in-Val-times.ensures, ← c.in-Val-index_behind.ensures, ← (rw c.requires.next at c.in-Val-index_if.ensures), ← (rw c.requires.next at c.in-Lost-rim2.ensures)) refl
-
-pub returns-in-Empty-zone2 : goal.returns-in-Empty-zone2
-unfolding preparation_rows preparation_by
-returns-in-Empty-zone2 g c = rw (← c.in-Val.ensures, ← (rw c.requires.next at c.in-Val-curvature.ensures), ← (rw c.requires.next at c.in-Val-conic_factor.ensures), ← c.in-Val-times.ensures, ← c.in-Val-index_behind.ensures, ← (rw c.requires.next at c.in-Val-index_if.ensures), ← (rw c.requires.next at c.in-Val-rim2.ensures), ← (rw c.requires.next at c.in-Empty-zone2.ensures.exact)) refl
-
-pub returns-in-Lost-zone2 : goal.returns-in-Lost-zone2
-unfolding preparation_rows preparation_by
-returns-in-Lost-zone2 g c = rw (← c.in-Val.ensures, ← (rw c.requires.next at c.in-Val-curvature.ensures), ← (rw c.requires.next at c.in-Val-conic_factor.ensures), ← c.in-Val-times.ensures, ← c.in-Val-index_behind.ensures, ← (rw c.requires.next at c.in-Val-index_if.ensures), ← (rw c.requires.next at c.in-Val-rim2.ensures), ← (rw c.requires.next at c.in-Lost-zone2.ensures.exact)) refl
-
-pub returns-in-Empty-terms : goal.returns-in-Empty-terms
-unfolding preparation_rows preparation_by
-returns-in-Empty-terms g c = rw (← c.in-Val.ensures, ← (rw c.requires.next at c.in-Val-curvature.ensures), ← (rw c.requires.next at c.in-Val-conic_factor.ensures), ← c.in-Val-times.ensures, ← c.in-Val-index_behind.ensures, ← (rw c.requires.next at c.in-Val-index_if.ensures), ← (rw c.requires.next at c.in-Val-rim2.ensures), ← (rw c.requires.next at c.in-Val-zone2.ensures.exact), ← (rw c.requires.next at c.in-Empty-terms.ensures)) refl
-
-pub returns-in-Lost-terms : goal.returns-in-Lost-terms
-unfolding preparation_rows preparation_by
-returns-in-Lost-terms g c = rw (← c.in-Val.ensures, ← (rw c.requires.next at c.in-Val-curvature.ensures), ← (rw c.requires.next at c.in-Val-conic_factor.ensures), ← c.in-Val-times.ensures, ← c.in-Val-index_behind.ensures, ← (rw c.requires.next at c.in-Val-index_if.ensures), ← (rw c.requires.next at c.in-Val-rim2.ensures), ← (rw c.requires.next at c.in-Val-zone2.ensures.exact), ← (rw c.requires.next at c.in-Lost-terms.ensures)) refl
-
 pub returns : goal.returns
 unfolding preparation_rows preparation_by
-returns g c =
+returns g c = rw (← c.in-Empty-val.ensures) refl
+
+pub returns-2 : goal.returns-2
+unfolding preparation_rows preparation_by
+returns-2 g c = rw (← c.in-Lost-val.ensures) refl
+
+pub returns-3 : goal.returns-3
+unfolding preparation_rows preparation_by
+returns-3 g c = rw (← c.in-Val-val.ensures, ← (rw c.requires.next at c.in-Empty-val-c.ensures)) refl
+
+pub returns-4 : goal.returns-4
+unfolding preparation_rows preparation_by
+returns-4 g c = rw (← c.in-Val-val.ensures, ← (rw c.requires.next at c.in-Lost-val-c.ensures)) refl
+
+pub returns-5 : goal.returns-5
+unfolding preparation_rows preparation_by
+returns-5 g c = rw (← c.in-Val-val.ensures, ← (rw c.requires.next at c.in-Val-val-c.ensures), ← (rw c.requires.next at c.in-Empty-val-kappa.ensures)) refl
+
+pub returns-6 : goal.returns-6
+unfolding preparation_rows preparation_by
+returns-6 g c = rw (← c.in-Val-val.ensures, ← (rw c.requires.next at c.in-Val-val-c.ensures), ← (rw c.requires.next at c.in-Lost-val-kappa.ensures)) refl
+
+pub returns-7 : goal.returns-7
+unfolding preparation_rows preparation_by
+returns-7 g c = rw (← c.in-Val-val.ensures, ← (rw c.requires.next at c.in-Val-val-c.ensures), ← (rw c.requires.next at c.in-Val-val-kappa.ensures), ← c.in-Empty-val-ck.ensures) refl
+
+pub returns-8 : goal.returns-8
+unfolding preparation_rows preparation_by
+returns-8 g c = rw (← c.in-Val-val.ensures, ← (rw c.requires.next at c.in-Val-val-c.ensures), ← (rw c.requires.next at c.in-Val-val-kappa.ensures), ← c.in-Lost-val-ck.ensures) refl
+
+pub returns-9 : goal.returns-9
+unfolding preparation_rows preparation_by
+returns-9 g c = rw (← c.in-Val-val.ensures, ← (rw c.requires.next at c.in-Val-val-c.ensures), ← (rw c.requires.next at c.in-Val-val-kappa.ensures), ← c.in-Val-val-ck.ensures, ← c.in-Empty-val-n.ensures) refl
+
+pub returns-10 : goal.returns-10
+unfolding preparation_rows preparation_by
+returns-10 g c = rw (← c.in-Val-val.ensures, ← (rw c.requires.next at c.in-Val-val-c.ensures), ← (rw c.requires.next at c.in-Val-val-kappa.ensures), ← c.in-Val-val-ck.ensures, ← c.in-Lost-val-n.ensures) refl
+
+pub returns-11 : goal.returns-11
+unfolding preparation_rows preparation_by
+returns-11 g c = rw (← c.in-Val-val.ensures, ← (rw c.requires.next at c.in-Val-val-c.ensures), ← (rw c.requires.next at c.in-Val-val-kappa.ensures), ← c.in-Val-val-ck.ensures, ← c.in-Val-val-n.ensures, ← (rw c.requires.next at c.in-Empty-val-n2.ensures)) refl
+
+pub returns-12 : goal.returns-12
+unfolding preparation_rows preparation_by
+returns-12 g c = rw (← c.in-Val-val.ensures, ← (rw c.requires.next at c.in-Val-val-c.ensures), ← (rw c.requires.next at c.in-Val-val-kappa.ensures), ← c.in-Val-val-ck.ensures, ← c.in-Val-val-n.ensures, ← (rw c.requires.next at c.in-Lost-val-n2.ensures)) refl
+
+pub returns-13 : goal.returns-13
+unfolding preparation_rows preparation_by
+returns-13 g c = rw (← c.in-Val-val.ensures, ← (rw c.requires.next at c.in-Val-val-c.ensures), ← (rw c.requires.next at c.in-Val-val-kappa.ensures), ← c.in-Val-val-ck.ensures, ← c.in-Val-val-n.ensures, ← (rw c.requires.next at c.in-Val-val-n2.ensures), ← (rw c.requires.next at c.in-Empty-val-rim2.ensures)) refl
+
+pub returns-14 : goal.returns-14
+unfolding preparation_rows preparation_by
+returns-14 g c = rw (← c.in-Val-val.ensures, ← (rw c.requires.next at c.in-Val-val-c.ensures), ← (rw c.requires.next at c.in-Val-val-kappa.ensures), ← c.in-Val-val-ck.ensures, ← c.in-Val-val-n.ensures, ← (rw c.requires.next at c.in-Val-val-n2.ensures), ← (rw c.requires.next at c.in-Lost-val-rim2.ensures)) refl
+
+pub returns-15 : goal.returns-15
+unfolding preparation_rows preparation_by
+returns-15 g c = rw (← c.in-Val-val.ensures, ← (rw c.requires.next at c.in-Val-val-c.ensures), ← (rw c.requires.next at c.in-Val-val-kappa.ensures), ← c.in-Val-val-ck.ensures, ← c.in-Val-val-n.ensures, ← (rw c.requires.next at c.in-Val-val-n2.ensures), ← (rw c.requires.next at c.in-Val-val-rim2.ensures), ← (rw c.requires.next at c.in-Empty-val-zone2.ensures.exact)) refl
+
+pub returns-16 : goal.returns-16
+unfolding preparation_rows preparation_by
+returns-16 g c = rw (← c.in-Val-val.ensures, ← (rw c.requires.next at c.in-Val-val-c.ensures), ← (rw c.requires.next at c.in-Val-val-kappa.ensures), ← c.in-Val-val-ck.ensures, ← c.in-Val-val-n.ensures, ← (rw c.requires.next at c.in-Val-val-n2.ensures), ← (rw c.requires.next at c.in-Val-val-rim2.ensures), ← (rw c.requires.next at c.in-Lost-val-zone2.ensures.exact)) refl
+
+pub returns-17 : goal.returns-17
+unfolding preparation_rows preparation_by
+returns-17 g c = rw (← c.in-Val-val.ensures, ← (rw c.requires.next at c.in-Val-val-c.ensures), ← (rw c.requires.next at c.in-Val-val-kappa.ensures), ← c.in-Val-val-ck.ensures, ← c.in-Val-val-n.ensures, ← (rw c.requires.next at c.in-Val-val-n2.ensures), ← (rw c.requires.next at c.in-Val-val-rim2.ensures), ← (rw c.requires.next at c.in-Val-val-zone2.ensures.exact), ← (rw c.requires.next at c.in-Empty-val-b.ensures)) refl
+
+pub returns-18 : goal.returns-18
+unfolding preparation_rows preparation_by
+returns-18 g c = rw (← c.in-Val-val.ensures, ← (rw c.requires.next at c.in-Val-val-c.ensures), ← (rw c.requires.next at c.in-Val-val-kappa.ensures), ← c.in-Val-val-ck.ensures, ← c.in-Val-val-n.ensures, ← (rw c.requires.next at c.in-Val-val-n2.ensures), ← (rw c.requires.next at c.in-Val-val-rim2.ensures), ← (rw c.requires.next at c.in-Val-val-zone2.ensures.exact), ← (rw c.requires.next at c.in-Lost-val-b.ensures)) refl
+
+pub returns-19 : goal.returns-19
+unfolding preparation_rows preparation_by
+returns-19 g c =
     rw (
       to_z-of_z w32 c.norm_of_surface.result (record { sfits = c.norm_of_surface.type_inv }),
       to_z-of_z w32 c.travel.result (record { sfits = c.travel.type_inv }),
@@ -88,15 +88,15 @@ returns g c =
       c.travel.ensures,
       c.reflects.ensures,
       c.requires.next,
-      ← c.in-Val.ensures,
-      ← (rw c.requires.next at c.in-Val-curvature.ensures),
-      ← (rw c.requires.next at c.in-Val-conic_factor.ensures),
-      ← c.in-Val-times.ensures,
-      ← c.in-Val-index_behind.ensures,
-      ← (rw c.requires.next at c.in-Val-index_if.ensures),
-      ← (rw c.requires.next at c.in-Val-rim2.ensures),
-      ← (rw c.requires.next at c.in-Val-zone2.ensures.exact),
-      ← (rw c.requires.next at c.in-Val-terms.ensures),
+      ← c.in-Val-val.ensures,
+      ← (rw c.requires.next at c.in-Val-val-c.ensures),
+      ← (rw c.requires.next at c.in-Val-val-kappa.ensures),
+      ← c.in-Val-val-ck.ensures,
+      ← c.in-Val-val-n.ensures,
+      ← (rw c.requires.next at c.in-Val-val-n2.ensures),
+      ← (rw c.requires.next at c.in-Val-val-rim2.ensures),
+      ← (rw c.requires.next at c.in-Val-val-zone2.ensures.exact),
+      ← (rw c.requires.next at c.in-Val-val-b.ensures),
     ) refl
 
 pub invariant_of-result : goal.invariant_of-result
@@ -104,7 +104,7 @@ invariant_of-result g c =
     let fits = to_z-of_z w32 c.norm_of_surface.result (record { sfits = c.norm_of_surface.type_inv }) in (
       rw fits c.norm_of_surface.ensures.low,
       rw fits c.norm_of_surface.ensures.high,
-      rw c.surface.ensures c.in-Val-zone2.ensures.kept,
+      rw c.surface.ensures c.in-Val-val-zone2.ensures.kept,
       c.widen.ensures,
       c.square.ensures,
       c.square_if.ensures,
