@@ -1,7 +1,9 @@
 pub mod BendLaws
 pub mod Clipping
+pub mod Decided
 pub mod Incidence
 pub mod Indices
 pub mod Reflection
 pub mod Refraction
+pub mod Samples
 pub mod Signs

@@ -7,3 +7,5 @@ mod incidence;
 mod reflection;
 mod refraction;
 mod sign;
+#[cfg(test)]
+mod tests;
