@@ -15,12 +15,6 @@ if_val-then (Val a) f Q P h k = k a h
 if_val-then Empty f Q P h k = tt
 if_val-then (Lost why) f Q P h k = tt
 
--- whatever the first step gives
-pub if_later : {A B : Type 0} (r : Step A) (f : A → Step B) (P : B → Type 0) → ((x : A) → IfVal (f x) P) → IfVal (r >>= f) P
-if_later (Val a) f P k = k a
-if_later Empty f P k = tt
-if_later (Lost why) f P k = tt
-
 pub always : {A : Type 0} (r : Step A) (P : Type 0) → P → IfVal r (λ a. P)
 always (Val a) P h = h
 always Empty P h = tt

@@ -14,6 +14,7 @@ use fixdec::dec::Dec;
 use fixdec::span::Span;
 use fixdec::step::Step;
 use fixdec::val;
+use forms::form::Form;
 use lensmodel::glass::Medium;
 use lensmodel::prescription::Prescription;
 use lensmodel::setup::Setup;
@@ -370,6 +371,104 @@ fn meets_a_mirror<R: Abort, L: Ledger>(rt: &R, blank: Blank)
     );
 }
 
+/// The same where the height of the ray has the symbol 0, by `delta` units.
+fn met_within<T: Arith, L: Ledger>(
+    lens: &Setup,
+    ray: &Ray<T>,
+    delta: i128,
+    e: i128,
+    steps: &mut Steps<L>,
+) -> Step<[(i128, i128); 4]>
+    requires scale { T.SCALE ≤ 15 }
+    requires well { IsWellFormed lens.now }
+    requires count { length lens.now.lens.surfaces.items ≡ 3 }
+    requires sign { pos 0 ≤ℤ delta }
+    requires cap { InCap delta }
+    requires low { pos 0 ≤ℤ e }
+    requires high { InCap e }
+{
+    let delta = Span {
+        lo: delta,
+        hi: delta,
+    };
+    let mut ray = *ray;
+    ray.y = val!(ray.y.symbol(0, delta));
+    met(lens, &ray, e, steps)
+}
+
+/// The sphere at the height 6, in linear forms.
+fn meets_a_sphere_in_forms<R: Abort, L: Ledger>(rt: &R, blank: Blank)
+    requires name { blank.name ≡ L.name }
+    requires parts { blank.parts ≡ L.parts }
+    requires some { 0 < L.parts }
+{
+    let lens = sphere_lens();
+    let mut steps = Steps::<L>::start(blank);
+    assert_eq!(rt;
+        met::<Form<6>, L>(&lens, &level(1000000, 6000000, 1, 1), 1, &mut steps),
+        Step::Val([
+            (1999985, 2000015),
+            (35999914, 36000086),
+            (799998, 800002),
+            (1999980, 2000020)
+        ])
+    );
+    assert_eq!(rt;
+        met_within::<Form<9>, L>(
+            &lens,
+            &level(1000000000, 6000000000, 1, 1),
+            1000000,
+            1,
+            &mut steps
+        ),
+        Step::Val([
+            (1999249889, 2000750111),
+            (35987998914, 36012001086),
+            (799924988, 800075012),
+            (1999249884, 2000750116)
+        ])
+    );
+}
+
+/// The bent asphere at the height 6, in linear forms.
+fn meets_a_bent_asphere_in_forms<R: Abort, L: Ledger>(rt: &R, blank: Blank)
+    requires name { blank.name ≡ L.name }
+    requires parts { blank.parts ≡ L.parts }
+    requires some { 0 < L.parts }
+{
+    let lens = bent_lens();
+    let mut steps = Steps::<L>::start(blank);
+    assert_eq!(rt;
+        met::<Form<15>, L>(
+            &lens,
+            &level(1000000000000000, 6000000000000000, 1000, 500),
+            1000,
+            &mut steps
+        ),
+        Step::Val([
+            (2012959999994761, 2012960000005239),
+            (35999999999963806, 36000000000036194),
+            (799999999999710, 800000000000290),
+            (2012959999991753, 2012960000008247)
+        ])
+    );
+    assert_eq!(rt;
+        met_within::<Form<9>, L>(
+            &lens,
+            &level(1000000000, 6000000000, 1, 1),
+            1000000,
+            1,
+            &mut steps
+        ),
+        Step::Val([
+            (2012201246, 2013718754),
+            (35987998914, 36012001086),
+            (799924989, 800075011),
+            (2012201240, 2013718760)
+        ])
+    );
+}
+
 #[test]
 fn sphere_height_and_past_it(rt: HostRuntime) {
     meets_a_sphere::<HostRuntime, Brand>(&rt, Blank::new(1));
@@ -393,4 +492,14 @@ fn rim_tie(rt: HostRuntime) {
 #[test]
 fn mirror_before_its_vertex(rt: HostRuntime) {
     meets_a_mirror::<HostRuntime, Brand>(&rt, Blank::new(1));
+}
+
+#[test]
+fn sphere_in_linear_forms(rt: HostRuntime) {
+    meets_a_sphere_in_forms::<HostRuntime, Brand>(&rt, Blank::new(1));
+}
+
+#[test]
+fn asphere_in_linear_forms(rt: HostRuntime) {
+    meets_a_bent_asphere_in_forms::<HostRuntime, Brand>(&rt, Blank::new(1));
 }

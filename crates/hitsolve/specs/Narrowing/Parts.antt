@@ -16,14 +16,6 @@ pub record IsPart (a b : Ends) : Type 0 where
   pub order : a.lo ≤ℤ a.hi
   pub high : a.hi ≤ℤ b.hi
 
--- an interval is a part of itself
-pub whole_part : (a : Ends) → a.lo ≤ℤ a.hi → IsPart a a
-whole_part a h = record { low = omega (arith, ints); order = h; high = omega (arith, ints) }
-
--- the wider interval's ends are in order too
-pub part_order : {a b : Ends} → IsPart a b → b.lo ≤ℤ b.hi
-part_order {a} {b} h = let l = h.low in let o = h.order in let u = h.high in omega (arith, ints)
-
 module _ {A : Type 0} (part : A → A → Type 0) where
   -- a value that is a part of b, or Empty
   abbrev pub IsPartOf : Step A → A → Type 0
