@@ -9,6 +9,7 @@ use Rattle.lensmodel.specs.Rows.Preparation.{preparation_rows}
 use Rattle.lensmodel.specs.Rows.Start.{Incoming}
 use Rattle.lensmodel.specs.Setup.Values.{image}
 use Rattle.lensmodel.specs.declared.row.Place.{Place}
+use Rattle.lensmodel.specs.declared.row.Row.{Row}
 use Rattle.lensmodel.specs.declared.row.Word.{Word}
 use Rattle.lensmodel.specs.declared.row.Word.TheVariants.{Passes, Wide}
 use Rattle.lensmodel.specs.declared.setup.Setup.{Setup}
@@ -16,7 +17,6 @@ use Rattle.skewtrace.specs.Enclosing.{TurnsSurely, GoesOnSurely, IsSureFrom, sur
 use Rattle.skewtrace.specs.Turns.{Turn, Goes, Halts, passed_of, follow, units, turn_at, turn_ends, walk_from, walk_from-follows, walk_from-image}
 use Rattle.skewtrace.specs.Words.{noted_all, judged, judged-before, judged-image, judged-over, judged-ended, any_wide}
 use Rattle.skewtrace.specs.declared.going.Going.{Going}
-use Rattle.skewtrace.specs.declared.place.Trail.{Trail}
 use Rattle.skewtrace.specs.declared.going.Going.TheVariants.{On, Image, Ended}
 
 -- how the walk goes on after a turn
@@ -26,11 +26,11 @@ going_of (Halts None places) = Image
 going_of (Halts (Some w) places) = Ended w
 
 -- the word of the rims and the places after a turn at surface j
-abbrev pub rims_after : {A : Type 0} → Trail → ℕ → Turn A → Word
-rims_after trail j t = noted_all trail.rims j (passed_of t)
+abbrev pub word_after : {A : Type 0} → Row → ℕ → Turn A → Word
+word_after row j t = noted_all row.word j (passed_of t)
 
-abbrev pub places_after : {A : Type 0} → Trail → Turn A → List Place
-places_after trail t = trail.places.items ++ places_of (passed_of t)
+abbrev pub places_after : {A : Type 0} → Row → Turn A → List Place
+places_after row t = row.places.items ++ places_of (passed_of t)
 
 module _ {A : Type 0} (o : Operations A) (scale : ℕ) (member : A → Symbols → Frac → Type 0) (s : Setup) where
   -- the outcome of a walk that has the places and the word of their rims behind it, and goes on with a ray at surface j
@@ -56,9 +56,9 @@ module _ {A : Type 0} (o : Operations A) (scale : ℕ) (member : A → Symbols �
   GoesOn Image rims places j ray rims' places' = Continues rims places j ray rims' places' ray
   GoesOn (Ended end) rims places j ray rims' places' = Stops rims places j ray end places'
 
-  -- the same by what is behind the walk before and after
-  abbrev pub GoesOnBy : ℕ → Incoming A → Trail → Going A → Trail → Type 0
-  GoesOnBy j ray before going after = GoesOn going before.rims before.places.items j ray after.rims after.places.items
+  -- the same by the rows before and after, whose word is that of the rims
+  abbrev pub GoesOnBy : ℕ → Incoming A → Row → Going A → Row → Type 0
+  GoesOnBy j ray before going after = GoesOn going before.word before.places.items j ray after.word after.places.items
 
   module _ (rims : Word) (places : List Place) (j : ℕ) (ray : Incoming A) (low : 1 ≤ j) (high : j ≤ image s)
       (sure : TurnsSurely o scale member s j (preparation_rows o scale s (units o scale s) (j - 1)) ray) where

@@ -8,7 +8,7 @@ ghost use Rattle.skewtrace.specs.Words as words;
 use arrayvec::ArrayVec;
 use enclose::arith::Arith;
 use fixdec::span::Span;
-use lensmodel::row::{Heading, Place, Word};
+use lensmodel::row::{Heading, Place, Row, Word};
 use sagform::ray::{Dir, Hit};
 
 /// The heading of a direction.
@@ -54,47 +54,37 @@ fn noted(rims: Word, j: u32, rho: Span, rim2: Option<Span>) -> Word
     }
 }
 
-/// The places of a walk so far, and the word of their rims: passes, or undecided at the first surface
-/// whose rim isn't certainly cleared.
-#[derive(Drop)]
-pub(crate) struct Trail {
-    pub(crate) rims: Word,
-    pub(crate) places: ArrayVec<Place, 64>,
+/// Empties a row, and gives it a word.
+pub(crate) fn empty(word: Word, row: &mut Row)
+    ensures word { row.new.word ≡ word }
+    ensures places { row.new.places.items ≡ [] }
+{
+    row.word = word;
+    row.places.clear();
 }
 
-impl Trail {
-    /// No places.
-    pub(crate) fn start() -> Trail
-        ensures { result ≡ record { rims = Word.Passes; places = record { items = [] } } }
-    {
-        Trail {
-            rims: Word::Passes,
-            places: ArrayVec::new(),
-        }
-    }
-
-    /// Adds the place of the point on surface `j`.
-    pub(crate) fn add<T: Arith>(
-        &mut self,
-        j: u32,
-        h: &Hit<T>,
-        heading: Option<Heading>,
-        rim2: Option<Span>,
-    )
-        requires scale { T.SCALE ≤ 15 }
-        requires room { length self.old.places.items < 64 }
-        ensures rims { self.new.rims ≡ words.noted self.old.rims j (record { place = turns.place_with T.ops.hull h.now heading; rim2 = rim2 }) }
-        ensures places { self.new.places.items ≡ self.old.places.items ++ turns.place_with T.ops.hull h.now heading ∷ [] }
-    {
-        let rho = h.rho.hull();
-        self.rims = noted(self.rims, j, rho, rim2);
-        self.places.push(Place {
-            rho,
-            x: h.x.hull(),
-            y: h.y.hull(),
-            z: h.z.hull(),
-            path: h.path.hull(),
-            heading,
-        });
-    }
+/// Adds the place of the point on surface `j` to the row of a walk. Until the walk ends the row's word
+/// is that of the rims: passes, or undecided at the first surface whose rim isn't certainly cleared.
+pub(crate) fn add<T: Arith>(
+    row: &mut Row,
+    j: u32,
+    h: &Hit<T>,
+    heading: Option<Heading>,
+    rim2: Option<Span>,
+)
+    requires scale { T.SCALE ≤ 15 }
+    requires room { length row.old.places.items < 64 }
+    ensures word { row.new.word ≡ words.noted row.old.word j (record { place = turns.place_with T.ops.hull h.now heading; rim2 = rim2 }) }
+    ensures places { row.new.places.items ≡ row.old.places.items ++ turns.place_with T.ops.hull h.now heading ∷ [] }
+{
+    let rho = h.rho.hull();
+    row.word = noted(row.word, j, rho, rim2);
+    row.places.push(Place {
+        rho,
+        x: h.x.hull(),
+        y: h.y.hull(),
+        z: h.z.hull(),
+        path: h.path.hull(),
+        heading,
+    });
 }

@@ -11,16 +11,16 @@ ghost use Rattle.skewtrace.specs.Goings as goings;
 ghost use Rattle.skewtrace.specs.Readies.{step_of};
 
 use crate::going::Going;
-use crate::place::Trail;
+use crate::place::empty;
 use crate::ready::{Ready, kept};
 use crate::start::start;
-use crate::trace::at_image;
+use crate::trace::{blank, end_at_image};
 use crate::turn::pass;
 use arrayvec::ArrayVec;
 use enclose::arith::Arith;
 use fixdec::step::{Step, Why};
 use lensmodel::launch::Launch;
-use lensmodel::row::{Place, Word};
+use lensmodel::row::{Place, Row, Word};
 use lensmodel::setup::Setup;
 use sagform::prepare::face;
 use sagform::ray::Ray;
@@ -67,24 +67,28 @@ fn prepare<T: Arith, L: Ledger>(s: &Setup, faces: &mut Vec<Ready<T>>, steps: &mu
 }
 
 /// The walk of a ray that has started, over prepared surfaces.
-fn walk<T: Arith>(s: &Setup, faces: &[Ready<T>], start: Ray<T>) -> (Word, ArrayVec<Place, 64>)
+fn walk<T: Arith>(s: &Setup, faces: &[Ready<T>], start: Ray<T>, row: &mut Row)
     requires scale { T.SCALE ≤ 15 }
     requires well { IsWellFormed s.now }
     requires filled { map step_of faces.now ≡ filled.all_faces T.ops T.SCALE s.now }
-    ensures exact { let out = goings.outcome_first T.ops T.SCALE T.member s.now start in result ≡ (out.word, record { items = out.places }) }
+    ensures word { row.new.word ≡ (goings.outcome_first T.ops T.SCALE T.member s.now start).word }
+    ensures places { row.new.places.items ≡ (goings.outcome_first T.ops T.SCALE T.member s.now start).places }
     ensures sure { IsSureFrom T.ops T.SCALE T.member s.now 1 start }
 {
-    let mut trail = Trail::start();
+    empty(Word::Passes, row);
     let mut ray = start;
     for j in 1..s.lens.surfaces.len() as u32 {
         let face = &faces[j as usize - 1];
-        match pass(s, j, face, &ray, &mut trail) {
+        match pass(s, j, face, &ray, row) {
             Going::On(next) => ray = next,
             Going::Image => {}
-            Going::Ended(word) => return (word, trail.places),
+            Going::Ended(word) => {
+                row.word = word;
+                return;
+            }
         }
     }
-    at_image::<T>(s, trail)
+    end_at_image::<T>(s, row);
 }
 
 impl<T: Arith> Prepared<T> {
@@ -123,10 +127,38 @@ impl<T: Arith> Prepared<T> {
         // Every chain lies in the places, and the word holds of every chain.
         ensures encloses { RowHolds s.now q.now (record { scale = T.SCALE; word = result.0; places = result.1 }) }
     {
+        let mut row = blank();
+        self.outcome(s, q, &mut row);
+        (row.word, row.places)
+    }
+
+    /// The same outcome, written in place of a row that the caller has, with T's scale.
+    pub fn trace_into(&self, s: &Setup, q: &Launch, row: &mut Row)
+        requires scale { T.SCALE ≤ 15 }
+        requires well { IsWellFormed s.now }
+        requires filled { self.now.list ≡ filled.all_faces T.ops T.SCALE s.now }
+        ensures scale { row.new.scale ≡ T.SCALE }
+        ensures word { row.new.word ≡ (outcome_at T.ops T.SCALE s.now q.now).word }
+        ensures places { row.new.places.items ≡ (outcome_at T.ops T.SCALE s.now q.now).places }
+        ensures encloses { RowHolds s.now q.now row.new }
+    {
+        self.outcome(s, q, row);
+        row.scale = T::SCALE;
+    }
+
+    /// The word and the places of a ray, in a row whose scale isn't set.
+    fn outcome(&self, s: &Setup, q: &Launch, row: &mut Row)
+        requires scale { T.SCALE ≤ 15 }
+        requires well { IsWellFormed s.now }
+        requires filled { self.now.list ≡ filled.all_faces T.ops T.SCALE s.now }
+        ensures word { row.new.word ≡ (outcome_at T.ops T.SCALE s.now q.now).word }
+        ensures places { row.new.places.items ≡ (outcome_at T.ops T.SCALE s.now q.now).places }
+        ensures encloses { RowHolds s.now q.now (record { scale = T.SCALE; word = row.new.word; places = row.new.places }) }
+    {
         match start::<T>(s, q) {
-            Step::Val(ray) => walk(s, self.faces.as_slice(), ray),
-            Step::Empty => (Word::Lost(1, Why::Root), ArrayVec::new()),
-            Step::Lost(why) => (Word::Lost(1, why), ArrayVec::new()),
+            Step::Val(ray) => walk(s, self.faces.as_slice(), ray, row),
+            Step::Empty => empty(Word::Lost(1, Why::Root), row),
+            Step::Lost(why) => empty(Word::Lost(1, why), row),
         }
     }
 }
