@@ -1,1 +1,2 @@
+pub mod RowSamples
 pub mod Samples

@@ -1,5 +1,5 @@
 -- The row of a ray as the scales give it one by one. Cited by the row of a ray and by the bench.
-use Rattle.std.specs.Prelude.{◌≡◌, ℕ, Bool, true, false, ◌&&◌, not, refl, Option, Some, None, if◌then◌else◌}
+use Rattle.std.specs.Prelude.{◌≡◌, ℕ, List, Bool, true, false, ◌&&◌, not, refl, Option, Some, None, if◌then◌else◌}
 use Rattle.arrayvec.specs.ArrayVec.{ArrayVec}
 use Rattle.fixdec.specs.Form.{linear_operations}
 use Rattle.fixdec.specs.IntervalOperations.{operations}
@@ -11,6 +11,7 @@ use Rattle.lensmodel.specs.declared.launch.Launch.{Launch}
 use Rattle.lensmodel.specs.declared.row.Place.{Place}
 use Rattle.lensmodel.specs.declared.row.Row.{Row}
 use Rattle.lensmodel.specs.declared.row.Word.{Word}
+use Rattle.lensmodel.specs.declared.row.Word.TheVariants as word
 use Rattle.lensmodel.specs.declared.setup.Setup.{Setup}
 use Rattle.lensmodel.specs.declared.tolerance.TolBox.{TolBox}
 
@@ -53,6 +54,17 @@ pub traced_row : {A : Type 0} (o : Operations A) (scale : ℕ) (s : Setup) (q : 
 unfolding outcome_at
 traced_row o scale s q n r e h = rw (h, e) refl
 
+-- a row by its parts
+row_by_parts : (r : Row) (n : ℕ) (w : Word) (ps : List Place) → r.scale ≡ n → r.word ≡ w → r.places.items ≡ ps
+    → r ≡ record { scale = n; word = w; places = record { items = ps } }
+row_by_parts r n w ps a b c = rw (← a, ← b, ← c) refl
+
+-- what was traced in place of a row
+pub row_is : {A : Type 0} (o : Operations A) (scale : ℕ) (s : Setup) (q : Launch) (r : Row) → r.scale ≡ scale
+    → r.word ≡ (outcome_at o scale s q).word → r.places.items ≡ (outcome_at o scale s q).places → r ≡ as_row (outcome_at o scale s q)
+unfolding outcome_at
+row_is o scale s q r n w p = row_by_parts r _ _ _ n w p
+
 -- it holds of every chain
 pub held_row : (s : Setup) (q : Launch) (scale n : ℕ) (r : Word × ArrayVec Place) → scale ≡ n
     → RowHolds s q (record { scale = scale; word = r.0; places = r.1 }) → RowHolds s q (record { scale = n; word = r.0; places = r.1 })
@@ -73,6 +85,16 @@ climb-without_box s q h = rw h refl
 pub climb-with_box : (box : TolBox) (s : Setup) (q : Launch) → s.toler ≡ Some box → climb_by linear_operations s q ≡ row s q
 unfolding climb row
 climb-with_box box s q h = rw h refl
+
+-- a word that says that the arithmetic was lost isn't definite
+lost_not_definite : (w : Word) → is_lost w ≡ true → is_definite w ≡ false
+lost_not_definite (word.Lost j why) h = refl
+lost_not_definite word.Passes h = cc
+lost_not_definite (word.Vignetted j) h = cc
+lost_not_definite (word.Outside j) h = cc
+lost_not_definite (word.Tir j) h = cc
+lost_not_definite (word.Undecided j r s) h = refl
+lost_not_definite word.Wide h = refl
 
 module _ (a b c d : Outcome) (x : Row) (six : x ≡ as_row a) where
   -- the first that is definite ends the climb
@@ -95,6 +117,52 @@ module _ (a b c d : Outcome) (x : Row) (six : x ≡ as_row a) where
         unfolding climb
         ends_at_fifteen h =
             let p = rw six at h6 in let q = rw nine at h9 in let r = rw twelve at h12 in let e = rw fifteen at h in rw (fifteen, p, q, r, e) refl
+
+        -- the first that isn't lost, from the greatest down, is the row where none is definite
+        last_fifteen : is_lost w.word ≡ false → is_definite w.word ≡ false → w ≡ climb a b c d
+        unfolding climb
+        last_fifteen l h =
+            let p = rw six at h6 in let q = rw nine at h9 in let r = rw twelve at h12 in let e = rw fifteen at h in let f = rw fifteen at l in
+            rw (fifteen, p, q, r, e, f) refl
+
+        pub last_is_fifteen : is_lost w.word ≡ false → w ≡ climb a b c d
+        last_is_fifteen l = by (is_definite w.word) refl
+          where
+            by : (t : Bool) → is_definite w.word ≡ t → w ≡ climb a b c d
+            by true e = ends_at_fifteen e
+            by false e = last_fifteen l e
+
+        module _ (l15 : is_lost w.word ≡ true) where
+          pub last_is_twelve : is_lost z.word ≡ false → (v : Row) → v ≡ as_row c → v ≡ climb a b c d
+          unfolding climb
+          last_is_twelve l v k =
+              let p = rw six at h6 in let q = rw nine at h9 in let r = rw twelve at h12 in let e = rw fifteen at (lost_not_definite w.word l15) in
+              let f = rw fifteen at l15 in let g = rw twelve at l in
+              rw (k, p, q, r, e, f, g) refl
+
+          module _ (l12 : is_lost z.word ≡ true) where
+            pub last_is_nine : is_lost y.word ≡ false → (v : Row) → v ≡ as_row b → v ≡ climb a b c d
+            unfolding climb
+            last_is_nine l v k =
+                let p = rw six at h6 in let q = rw nine at h9 in let r = rw twelve at h12 in let e = rw fifteen at (lost_not_definite w.word l15) in
+                let f = rw fifteen at l15 in let g = rw twelve at l12 in let h = rw nine at l in
+                rw (k, p, q, r, e, f, g, h) refl
+
+            module _ (l9 : is_lost y.word ≡ true) where
+              pub last_is_six : is_lost x.word ≡ false → (v : Row) → v ≡ as_row a → v ≡ climb a b c d
+              unfolding climb
+              last_is_six l v k =
+                  let p = rw six at h6 in let q = rw nine at h9 in let r = rw twelve at h12 in let e = rw fifteen at (lost_not_definite w.word l15) in
+                  let f = rw fifteen at l15 in let g = rw twelve at l12 in let h = rw nine at l9 in let i = rw six at l in
+                  rw (k, p, q, r, e, f, g, h, i) refl
+
+              -- where all are lost it is that of the greatest
+              pub last_is_lost : is_lost x.word ≡ true → w ≡ climb a b c d
+              unfolding climb
+              last_is_lost l =
+                  let p = rw six at h6 in let q = rw nine at h9 in let r = rw twelve at h12 in let e = rw fifteen at (lost_not_definite w.word l15) in
+                  let f = rw fifteen at l15 in let g = rw twelve at l12 in let h = rw nine at l9 in let i = rw six at l in
+                  rw (fifteen, p, q, r, e, f, g, h, i) refl
 
         chosen : (ld lc lb la : Bool) → is_lost d.word ≡ ld → is_lost c.word ≡ lc → is_lost b.word ≡ lb → is_lost a.word ≡ la
             → last_of (as_row a) (as_row b) (as_row c) (as_row d)

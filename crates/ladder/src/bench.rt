@@ -1,7 +1,8 @@
 //! Surfaces that are prepared once for many rows.
 
-ghost use Rattle.std.specs.Prelude.{◌≡◌, ◌+◌, ◌*◌};
+ghost use Rattle.std.specs.Prelude.{◌≡◌, ◌+◌, ◌*◌, IfOk};
 ghost use Rattle.ladder.specs.Benches.{IsFilledFor, IsOtherKept};
+ghost use Rattle.ladder.specs.Room.{HasNone};
 ghost use Rattle.lensmodel.specs.Claims.RowClaims.{RowHolds};
 ghost use Rattle.lensmodel.specs.Rows.Ray as ray;
 ghost use Rattle.lensmodel.specs.Setup.Values as values;
@@ -15,6 +16,7 @@ use lensmodel::row::Row;
 use lensmodel::setup::Setup;
 use sagform::steps::Steps;
 use skewtrace::prepared::PrepFull;
+use skewtrace::trace::blank;
 use std::alloc::Global;
 use std::marker::Model;
 use std::sync::ledger::Ledger;
@@ -40,7 +42,10 @@ impl Model for Bench {
 
 impl Bench {
     /// Room for 64 surfaces at each scale, with none prepared.
-    pub fn room(alloc: Global) -> Result<Bench, PrepFull> {
+    pub fn room(alloc: Global) -> Result<Bench, PrepFull>
+        ensures intervals { IfOk result (λ b. HasNone b.intervals) }
+        ensures forms { IfOk result (λ b. HasNone b.forms) }
+    {
         Ok(Bench {
             intervals: Rungs::room(alloc)?,
             forms: Rungs::room(alloc)?,
@@ -70,9 +75,21 @@ impl Bench {
         // Every chain lies in the places, and the word holds of every chain.
         ensures encloses { RowHolds s.now q.now result }
     {
+        let mut row = blank();
+        self.row_into(s, q, &mut row);
+        row
+    }
+
+    /// The same row, written in place of a row that the caller has: no row is copied.
+    pub fn row_into(&self, s: &Setup, q: &Launch, row: &mut Row)
+        requires well { IsWellFormed s.now }
+        requires filled { IsFilledFor s.now self.now }
+        ensures exact { row.new ≡ ray.row s.now q.now }
+        ensures encloses { RowHolds s.now q.now row.new }
+    {
         match s.toler {
-            None => self.intervals.row(s, q),
-            Some(_) => self.forms.row(s, q),
+            None => self.intervals.row_into(s, q, row),
+            Some(_) => self.forms.row_into(s, q, row),
         }
     }
 }

@@ -18,7 +18,7 @@ pub(crate) fn is_definite(word: &Word) -> bool
 }
 
 /// Whether a word says that the arithmetic was lost.
-fn is_lost(word: &Word) -> bool
+pub(crate) fn is_lost(word: &Word) -> bool
     ensures { result ≡ outcome.is_lost word.now }
 {
     matches!(word, Word::Lost(_, _))

@@ -2,14 +2,14 @@
 
 ghost use Rattle.std.specs.Prelude.{◌≡◌, ◌+◌, ◌*◌, ◌≤◌, IfOk};
 ghost use Rattle.ladder.specs.Climbs.{climb};
-ghost use Rattle.ladder.specs.Room.{HasRoom};
+ghost use Rattle.ladder.specs.Room.{HasNone, HasRoom};
 ghost use Rattle.lensmodel.specs.Claims.RowClaims.{RowHolds};
 ghost use Rattle.lensmodel.specs.Rows.Outcome.{outcome_at};
 ghost use Rattle.lensmodel.specs.Setup.Values as values;
 ghost use Rattle.lensmodel.specs.Setup.WellFormed.{IsWellFormed};
 ghost use Rattle.skewtrace.specs.Filled.{all_faces};
 
-use crate::kept::{last, rung};
+use crate::kept::{is_definite, is_lost};
 use crate::scale::at_scale;
 use enclose::arith::Arith;
 use lensmodel::launch::Launch;
@@ -32,7 +32,8 @@ pub(crate) struct Rungs<A: Arith, B: Arith, C: Arith, D: Arith> {
 impl<A: Arith, B: Arith, C: Arith, D: Arith> Rungs<A, B, C, D> {
     /// Room for 64 surfaces at each scale, with none prepared.
     pub(crate) fn room(alloc: Global) -> Result<Rungs<A, B, C, D>, PrepFull>
-        ensures { IfOk result (λ r. HasRoom r) }
+        ensures room { IfOk result (λ r. HasRoom r) }
+        ensures none { IfOk result (λ r. HasNone r) }
     {
         Ok(Rungs {
             six: Prepared::room(alloc)?,
@@ -65,8 +66,9 @@ impl<A: Arith, B: Arith, C: Arith, D: Arith> Rungs<A, B, C, D> {
         at_scale!(fill);
     }
 
-    /// The row of a ray, over surfaces that were prepared for the lens.
-    pub(crate) fn row(&self, s: &Setup, q: &Launch) -> Row
+    /// Writes the row of a ray, over surfaces that were prepared for the lens, in place of a row that the
+    /// caller has.
+    pub(crate) fn row_into(&self, s: &Setup, q: &Launch, row: &mut Row)
         requires six { A.SCALE ≡ 6 }
         requires nine { B.SCALE ≡ 9 }
         requires twelve { C.SCALE ≡ 12 }
@@ -76,18 +78,38 @@ impl<A: Arith, B: Arith, C: Arith, D: Arith> Rungs<A, B, C, D> {
         requires filled_nine { self.now.nine.list ≡ all_faces B.ops B.SCALE s.now }
         requires filled_twelve { self.now.twelve.list ≡ all_faces C.ops C.SCALE s.now }
         requires filled_fifteen { self.now.fifteen.list ≡ all_faces D.ops D.SCALE s.now }
-        ensures exact { result ≡ climb
+        ensures exact { row.new ≡ climb
             (outcome_at A.ops A.SCALE s.now q.now) (outcome_at B.ops B.SCALE s.now q.now)
             (outcome_at C.ops C.SCALE s.now q.now) (outcome_at D.ops D.SCALE s.now q.now) }
-        ensures encloses { RowHolds s.now q.now result }
+        ensures encloses { RowHolds s.now q.now row.new }
     {
-        let mut kept = None;
-        macro_rules! climb {
-            ($scale:literal, $at:ident) => {
-                rung!(kept, $scale, self.$at.trace(s, q));
-            };
+        self.six.trace_into(s, q, row);
+        if is_definite(&row.word) {
+            return;
         }
-        at_scale!(climb);
-        last(kept)
+        let lost_at_six = is_lost(&row.word);
+        self.nine.trace_into(s, q, row);
+        if is_definite(&row.word) {
+            return;
+        }
+        let lost_at_nine = is_lost(&row.word);
+        self.twelve.trace_into(s, q, row);
+        if is_definite(&row.word) {
+            return;
+        }
+        let lost_at_twelve = is_lost(&row.word);
+        self.fifteen.trace_into(s, q, row);
+        if !is_lost(&row.word) {
+            return;
+        }
+        if !lost_at_twelve {
+            return self.twelve.trace_into(s, q, row);
+        }
+        if !lost_at_nine {
+            return self.nine.trace_into(s, q, row);
+        }
+        if !lost_at_six {
+            return self.six.trace_into(s, q, row);
+        }
     }
 }

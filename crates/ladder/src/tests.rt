@@ -4,6 +4,8 @@ ghost use Rattle.std.specs.Prelude.{◌≡◌, ◌≢◌, pos, ◌<◌, ◌≤�
 ghost use Rattle.ladder.specs.Samples as samples;
 ghost use Rattle.lensmodel.specs.Setup.WellFormed.{IsWellFormed};
 
+mod rows;
+
 use crate::bench::Bench;
 use arrayvec::ArrayVec;
 use fixdec::dec::Dec;
