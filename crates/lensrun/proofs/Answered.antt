@@ -1,5 +1,5 @@
 -- What is due for the words of a call, from what its files gave.
-use Rattle.std.proofs.Common.{◌≡◌, ◌≢◌, ◌⊎◌, ℕ, ◌≤◌, List, [], ◌∷◌, length, inl, inr, Option, Some, None, Result, Ok, Err, refl, sym, ap, subst, ◌∙◌, arith}
+use Rattle.std.proofs.Common.{◌≡◌, ◌≢◌, ◌⊎◌, ℕ, List, [], ◌∷◌, length, inl, inr, Option, Some, None, Result, Ok, Err, refl, sym, ap, subst, ◌∙◌, arith}
 use Rattle.std.specs.Prelude.{Any}
 use Rattle.lensio.specs.Held.{Files}
 use Rattle.lensmodel.specs.Call.Answer.{Contents, Answer, answer, on_checked}
@@ -77,15 +77,6 @@ ready-no_report due h = ready-if due (no_trace-if due h)
 pub ready-none : {V F : Type 0} (held : Option Files) (file : FileKind) (name : List ℕ) (cause : F → List ℕ) (reading : List ℕ → Result V F) (due : Due)
     → GivesNone held file name cause reading due → IsReady due
 ready-none held file name cause reading due none = ready-no_report due (no_report held file name cause reading due none)
-
--- for want of memory
-pub nothing_due : (held : Option Files) (c : Option Command) → IsDueOf held c Nothing
-nothing_due held c = record {
-  outcome = λ decided. absurd decided;
-  read_fault = λ e. cc;
-  no_write = λ e. cc;
-  nothing = λ e. refl;
-}
 
 -- a cross check ends in a refusal, or in what follows it
 pub checked-ends : {V : Type 0} (r : Result V CrossFault) (text : V → List ℕ)

@@ -1,12 +1,12 @@
 -- The lines of a job that ask for rays, their rays one after another, and what holds of all of them.
-use Rattle.std.proofs.Common.{◌≡◌, ℕ, zero, suc, ◌+◌, ◌*◌, ◌<◌, ◌≤◌, Bool, List, [], ◌∷◌, ◌++◌, length, map, take, drop, get_or, Option, Some, refl, sym, ap, subst, ◌∙◌, append_assoc, append-nil, add-one, arith}
+use Rattle.std.proofs.Common.{◌≡◌, ℕ, zero, suc, ◌+◌, ◌*◌, ◌<◌, Bool, List, [], ◌∷◌, ◌++◌, length, map, take, drop, get_or, Option, Some, refl, sym, ap, subst, ◌∙◌, append_assoc, append-nil, add-one, arith}
 use Rattle.std.specs.Prelude.{slice_get, flat_map, IsTrue, pos, neg_ℤ, ◌+ℤ◌, ℤ}
 use Rattle.std.specs.List.{All, concat, sum_by}
 use Rattle.std.specs.Option.{option_map}
 use Rattle.std.proofs.lemmas.Grind.{flat_map-append}
 use Rattle.std.proofs.lemmas.List.{length-map, length-append, take_all, take-append-drop}
 use Rattle.std.proofs.lemmas.List.Elements.{All-nil, All-cons, All-more, All-map, All-weaker, All-append, All-take, All-drop, All-same, All-head, All-tail}
-use Rattle.std.proofs.lemmas.List.Sums.{sum_by-cons, sum_by_more, sum_by_more_le}
+use Rattle.std.proofs.lemmas.List.Sums.{sum_by-cons, sum_by_more}
 use Rattle.std.proofs.lemmas.Option.{slice_get-map, slice_get_within, get_or_from_slice_get}
 use Rattle.std.proofs.Math.Seq.{take-suc, take-append_seam}
 use Rattle.lensmodel.specs.Call.Trace.{ask_lines, asks_lines, rows_of, traced, SpotsHold}
@@ -129,11 +129,6 @@ pub job_count-next : (asks : List Ask) (k : ℕ) (a : Ask) → slice_get asks k 
 job_count-next asks k a at =
     sum_by_more count asks k a (slice_get_within asks k a at) ∙ ap (λ b. job_count (take k asks) + count b) (get_or_from_slice_get asks k a a at)
 
-pub job_count-within : (asks : List Ask) (k : ℕ) (a : Ask) → slice_get asks k ≡ Some a → job_count (take k asks) + count a ≤ job_count asks
-job_count-within asks k a at =
-    subst (λ b. job_count (take k asks) + count b ≤ job_count asks) (get_or_from_slice_get asks k a a at)
-    (sum_by_more_le count asks k a (slice_get_within asks k a at))
-
 -- the rays of the lines before and of one more
 pub launches-next : (asks : List Ask) (k : ℕ) (a : Ask) → slice_get asks k ≡ Some a → job_launches (take (k + 1) asks) ≡ job_launches (take k asks) ++ launches a
 launches-next asks k a at =
@@ -177,10 +172,6 @@ module _ (s : Setup) (job : Job) (asks : List Ask) (same : asks ≡ job.asks) (a
 pub job_rows-next : (s : Setup) (asks : List Ask) (k : ℕ) (a : Ask) → slice_get asks k ≡ Some a
     → map (row s) (job_launches (take k asks)) ++ rows_of s a ≡ map (row s) (job_launches (take (k + 1) asks))
 job_rows-next s asks k a at = sym (ap (map (row s)) (launches-next asks k a at) ∙ map-append (row s) (job_launches (take k asks)) (launches a))
-
-pub job_hold-end : (s : Setup) (asks : List Ask) (k : ℕ) → length asks ≡ k
-    → All (λ ray. RowHolds s ray (row s ray)) (job_launches (take k asks)) → All (λ ray. RowHolds s ray (row s ray)) (job_launches asks)
-job_hold-end s asks k e h = subst (λ l. All (λ ray. RowHolds s ray (row s ray)) (job_launches l)) (take_all k asks (omega (arith, e))) h
 
 pub job_hold-next : (s : Setup) (asks : List Ask) (k : ℕ) (a : Ask) → slice_get asks k ≡ Some a
     → All (λ ray. RowHolds s ray (row s ray)) (job_launches (take k asks)) → All (λ ray. RowHolds s ray (row s ray)) (launches a)

@@ -1,5 +1,5 @@
 -- The rays that are counted and summed, one after another.
-use Rattle.std.proofs.Common.{◌≡◌, ℕ, ◌+◌, List, [], ◌∷◌, ◌++◌, length, map, take, Some, sym, ap, subst, ◌∙◌, append_assoc, append-nil, arith}
+use Rattle.std.proofs.Common.{◌≡◌, ℕ, ◌+◌, List, [], ◌∷◌, ◌++◌, length, map, take, Some, sym, ap, subst, ◌∙◌, append_assoc, arith}
 use Rattle.std.specs.Prelude.{slice_get}
 use Rattle.std.proofs.lemmas.List.{take_all}
 use Rattle.lensmodel.specs.Call.Trace.{rows_of}
@@ -12,9 +12,6 @@ use Rattle.lensreport.specs.Totals.{Counts, counts_of}
 use Rattle.lensrun.specs.Traces.{CountsMore}
 use Rattle.lensrun.proofs.Asks.{take-next, job_rows-next}
 use Rattle.spotfan.specs.Sums.{Sums, sums_of}
-
-pub counts-none : (c : Counts) (rows : List Row) → CountsMore c c (take 0 rows)
-counts-none c rows = λ counted e. e ∙ ap counts_of (sym (append-nil counted))
 
 pub counts-next : (old mid new : Counts) (rows : List Row) (k : ℕ) (r : Row) → slice_get rows k ≡ Some r → CountsMore old mid (take k rows)
     → ((counted : List Row) → mid ≡ counts_of counted → new ≡ counts_of (counted ++ r ∷ [])) → CountsMore old new (take (k + 1) rows)
@@ -37,7 +34,3 @@ pub job_counts-next : (mid new : Counts) (s : Setup) (asks : List Ask) (k : ℕ)
     → mid ≡ counts_of (map (row s) (job_launches (take k asks))) → CountsMore mid new (rows_of s a)
     → new ≡ counts_of (map (row s) (job_launches (take (k + 1) asks)))
 job_counts-next mid new s asks k a at h more = more (map (row s) (job_launches (take k asks))) h ∙ ap counts_of (job_rows-next s asks k a at)
-
-pub job_counts-end : (new : Counts) (s : Setup) (asks : List Ask) (k : ℕ) → length asks ≡ k
-    → new ≡ counts_of (map (row s) (job_launches (take k asks))) → new ≡ counts_of (map (row s) (job_launches asks))
-job_counts-end new s asks k e h = h ∙ ap (λ l. counts_of (map (row s) (job_launches l))) (take_all k asks (omega (arith, e)))

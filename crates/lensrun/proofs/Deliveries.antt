@@ -11,7 +11,7 @@ use Rattle.lensmodel.specs.declared.status.Status.TheVariants.{Done, Usage, Refu
 use Rattle.lensrun.specs.Built.{command_of, outcome}
 use Rattle.lensrun.specs.Due.{due_answer, preparations, Delivers, DueHolds, IsNoTrace, IsStreamed, RestsOn}
 use Rattle.lensrun.specs.Found.{IsCounted}
-use Rattle.lensrun.specs.Promise.{BeginsNoReport, IsAnswered, IsComplete, IsDecided, IsDue, IsDueOf, IsReadFaultLine, IsStreamedReport, OfFiles, Prepares, PreparesLens, WritesDueFront, WritesReadFault, WritesReadFaultFront, WritesWanting, by_name}
+use Rattle.lensrun.specs.Promise.{BeginsNoReport, IsAnswered, IsComplete, IsDecided, IsDue, IsDueOf, IsReadFaultLine, IsStreamedReport, OfFiles, Prepares, PreparesLens, WritesDueFront, WritesReportFront, WritesReadFault, WritesReadFaultFront, WritesWanting, by_name}
 use Rattle.lensrun.specs.declared.due.Due.{Due}
 use Rattle.lensrun.specs.declared.due.Due.TheVariants.{Line, Glasses, Lens, Trace, TraceJson, Nothing}
 use Rattle.lensrun.specs.declared.due.Tracing.{Tracing}
@@ -129,13 +129,23 @@ module _ (held : Option Files) (said : List (List ℕ)) (due : Due) (ended : Sta
       (OfFiles-map held (λ files. IsAnswered files (command_of said) due) (λ files. IsStreamedReport (command_of said))
       (λ files a. streamed-command files (command_of said) due s a) (h.outcome (subst IsDecided (sym (streamed-done due s)) tt)))
 
+  -- a front of such a report
+  report_front : IsStreamed due → TakesFront old new (due_answer due).text → WritesReportFront held said old new
+  report_front s t =
+      OfFiles-map held (λ files. IsAnswered files (command_of said) due)
+      (λ files. ((outcome files said).status ≡ Done) × TakesFront old new (outcome files said).text)
+      (λ files is.
+      let whole : due_answer due ≡ outcome files said = is.answer ∙ outcome-is files said in
+      (sym (ap (λ (x : Answer). x.status) whole) ∙ streamed-done due s, subst (λ (x : Answer). TakesFront old new x.text) whole t))
+      (h.outcome (subst IsDecided (sym (streamed-done due s)) tt))
+
   -- nothing for want of memory, or a front of rows in JSON
   pub silent_if_delivered : ended ≡ Memory → WritesWanting held said old new
   silent_if_delivered is = elim d [
     | inl done ↦ inl (subst (λ (x : Due). Takes old new (due_answer x).text) (h.nothing (sym done.0 ∙ is)) done.1)
     | inr (inl failed) ↦ absurd (cc (sym is ∙ failed.0))
     | inr (inr wanting) ↦
-        inr (streamed-report wanting.1, front_if_decided wanting.2 (subst IsDecided (sym (streamed-done due wanting.1)) tt))
+        inr (streamed-report wanting.1, report_front wanting.1 wanting.2)
   ]
 
   -- ---- the surfaces that were prepared

@@ -39,9 +39,6 @@ one_more lines i line e =
 all_lines : (lines : List (List ℕ)) (i : ℕ) → concat (take i lines) ++ concat (drop i lines) ≡ concat lines
 all_lines lines i = sym (concat-append (take i lines) (drop i lines)) ∙ ap concat (take-append-drop i lines)
 
-pub gathers-nil : (a : Option (List ℕ)) → Gathers a a [] []
-gathers-nil a = record { written = []; takes = Takes-nil a; whole = refl }
-
 -- ---- bytes that follow what is gathered
 pub gathers-trans : (a b c : Option (List ℕ)) (p q t u : List ℕ) → Gathers a b p t → Gathers b c q (p ++ u) → Gathers a c q (t ++ u)
 gathers-trans a b c p q t u g h = record {
@@ -64,11 +61,6 @@ pub gathers-put-front : (a b c : Option (List ℕ)) (p t : List ℕ) → Gathers
 gathers-put-front a b c p t g h = subst (TakesFront a c) g.whole (TakesFront-after a b c g.written p g.takes h)
 
 -- ---- a line
-pub gathers-kept : (a : Option (List ℕ)) (p : List ℕ) → Gathers a a p p
-gathers-kept a p = record { written = []; takes = Takes-nil a; whole = refl }
-
-pub gathers-begun : (a b : Option (List ℕ)) (p u : List ℕ) → Takes a b p → Gathers a b u (p ++ u)
-gathers-begun a b p u h = record { written = p; takes = h; whole = refl }
 
 -- ---- lines, one after another, behind what was gathered before them
 pub lines-none : (a : Option (List ℕ)) (p : List ℕ) → Gathers a a p (p ++ concat [])

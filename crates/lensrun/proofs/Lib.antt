@@ -4,7 +4,6 @@ mod Books
 mod Counted
 mod Counts
 mod Deliveries
-mod Faults
 mod Gathering
 mod Inputs
 mod Lens

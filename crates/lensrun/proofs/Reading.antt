@@ -1,5 +1,5 @@
 -- What a shelf gave of a file, by what its reading answered.
-use Rattle.std.proofs.Common.{◌≡◌, ◌≢◌, ◌⊎◌, ℕ, zero, suc, ◌+◌, ◌*◌, ◌<◌, ◌≤◌, List, [], ◌∷◌, length, inl, inr, Option, Some, None, Result, Ok, Err, refl, sym, ap, subst, ◌∙◌, arith}
+use Rattle.std.proofs.Common.{◌≡◌, ◌≢◌, ◌⊎◌, ℕ, zero, suc, ◌+◌, ◌<◌, ◌≤◌, List, [], ◌∷◌, length, inl, inr, Option, Some, None, Result, Ok, Err, refl, sym, ap, subst, ◌∙◌, arith}
 use Rattle.std.specs.Prelude.{IfSome, IsSomeAnd, nat_lt}
 use Rattle.std.proofs.lemmas.Bool.{cases_lt, lt-ltb, le-ltb}
 use Rattle.lensio.specs.Count.{Rose, RoseBy, plus}
@@ -15,7 +15,6 @@ use Rattle.lensrun.specs.Due.{due_answer, unread_answer}
 use Rattle.lensrun.specs.Found.{IsFound, IsUnread, Stops, Gives, GivesNone, IsCounted, over_file}
 use Rattle.lensrun.specs.declared.due.Due.{Due}
 use Rattle.lensrun.specs.declared.due.Due.TheVariants.{Nothing}
-use Rattle.lensrun.proofs.Counts.{some-none}
 
 -- ---- bytes that weren't read
 long : (n : ℕ) → (bytes : List ℕ) × (n < length bytes)
@@ -86,17 +85,6 @@ module _ (file : FileKind) (name : List ℕ) (due : Due) where
       by_long slurped.Fault s e = absurd (cc (sym s ∙ ap (λ (x : Answer). x.status) e))
       by_long slurped.Absent s e = absurd (cc (sym s ∙ ap (λ (x : Answer). x.status) e))
       by_long slurped.Memory s e = absurd (cc (sym s ∙ ap (λ (x : Answer). x.status) e))
-
-pub read-counts : (n f f' a a' g g' : ℕ) → f' ≡ f → a' ≡ a → g' ≡ plus g n → n ≤ 16_777_216 → g ≤ g' → IsCounted None 1 f f' a a' g g'
-read-counts n f f' a a' g g' calm found given short rises = record {
-  absent = λ is. absurd (some-none Absent is);
-  read_fault = λ is. absurd (some-none ReadFault is);
-  too_long = λ is. absurd (some-none TooLong is);
-  calm = λ not. calm;
-  found = λ not. found;
-  within = λ not. omega (arith, given, short);
-  given_rises = rises;
-}
 
 -- ---- a value that wasn't read
 module _ {V F : Type 0} (held : Option Files) (file : FileKind) (name : List ℕ) (cause : F → List ℕ) (reading : List ℕ → Result V F) (due : Due) where

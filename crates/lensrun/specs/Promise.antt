@@ -87,9 +87,13 @@ abbrev pub IsStreamedReport : Option Command → Type 0
 IsStreamedReport (Some (trace_json i)) = Unit {0}
 IsStreamedReport c = ⊥
 
+-- a front of a report was written, which was due
+abbrev pub WritesReportFront : Option Files → List (List ℕ) → Option (List ℕ) → Option (List ℕ) → Type 0
+WritesReportFront held words old new = OfFiles held (λ files. ((outcome files words).status ≡ Done) × TakesFront old new (outcome files words).text)
+
 -- what was written where memory was wanting: nothing, or a front of such a report
 abbrev pub WritesWanting : Option Files → List (List ℕ) → Option (List ℕ) → Option (List ℕ) → Type 0
-WritesWanting held words old new = Takes old new [] ⊎ (IsStreamedReport (command_of words) × WritesDueFront held words old new)
+WritesWanting held words old new = Takes old new [] ⊎ (IsStreamedReport (command_of words) × WritesReportFront held words old new)
 
 -- where the words and the files that are told make a report, the call is done or memory was wanting
 abbrev pub IsComplete : Option Files → List (List ℕ) → Status → Type 0

@@ -25,6 +25,7 @@ use lensmodel::job::{Ask, Job};
 use lensmodel::setup::Setup;
 use lensreport::json::{ReportFull, json_row};
 use sagform::steps::Steps;
+use skewtrace::trace::blank;
 use spotfan::launch::{count, launch};
 use std::alloc::Global;
 use std::sync::ledger::Ledger;
@@ -120,8 +121,9 @@ fn write_rows<K: Sink>(
     ensures taken { ¬ IsErrOf result Unwritten.Failed → K.faults out.new ≡ K.faults out.old }
     ensures holds { OnOk result (AllHold lens.now.setup.now (launches.launches ask.now)) }
 {
+    let mut row = blank();
     for k in 0..count(ask) {
-        let row = lens.bench.row(lens.setup, &launch(ask, k));
+        lens.bench.row_into(lens.setup, &launch(ask, k), &mut row);
         let line = json_row(alloc, first + k, &row)?;
         put(out, line.as_slice())?;
     }

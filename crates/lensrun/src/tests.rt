@@ -2,6 +2,7 @@
 
 mod outside;
 mod rows;
+mod traces;
 
 use crate::run::run;
 use lensio::memory::{CalmShelf, CalmSink};
@@ -13,7 +14,10 @@ use std::process::Abort;
 use std::sync::ledger::Ledger;
 use std::test::Fail;
 
-const FLAT: &str = "NM FLAT 1 0 1.5 0\nCD 2.25 0 0 0 0 0\n";
+/// A file's name and its bytes.
+type File<'a> = (&'a str, &'a [u8]);
+
+const FLAT: &[u8] = b"NM FLAT 1 0 1.5 0\nCD 2.25 0 0 0 0 0\n";
 
 const FLAT_INDEX: &str = "index FLAT 5e-1 [1.499999999999,1.500000000001]\n";
 
@@ -28,10 +32,12 @@ fn words(alloc: Global, line: &str) -> Result<Vec<Vec<u8>>, Fail> {
     Ok(all)
 }
 
-/// One catalogue, F.
-fn files(alloc: Global, catalogue: &[u8]) -> Result<Vec<(Vec<u8>, Vec<u8>)>, Fail> {
+/// The files of a shelf.
+fn files(alloc: Global, held: &[File<'_>]) -> Result<Vec<(Vec<u8>, Vec<u8>)>, Fail> {
     let mut all = Vec::new(alloc);
-    all.push((b"F".to_vec(alloc)?, catalogue.to_vec(alloc)?))?;
+    for (name, bytes) in held {
+        all.push((name.as_bytes().to_vec(alloc)?, bytes.to_vec(alloc)?))?;
+    }
     Ok(all)
 }
 
@@ -49,16 +55,16 @@ fn answer<F: Shelf, L: Ledger>(
     Ok((status, text))
 }
 
-/// Asserts how a line of words ends over one catalogue, F, and what it writes.
+/// Asserts how a line of words ends over these files, and what it writes.
 fn expect<R: Abort, L: Ledger>(
     rt: &R,
     alloc: Global,
-    catalogue: &[u8],
+    held: &[File<'_>],
     line: &str,
     (status, text): (Status, &str),
     steps: &mut Steps<L>,
 ) -> Result<(), Fail> {
-    let mut shelf = CalmShelf::new(files(alloc, catalogue)?, 4099);
+    let mut shelf = CalmShelf::new(files(alloc, held)?, 4099);
     let (ended, written) = answer(alloc, line, &mut shelf, steps)?;
     assert_eq!(rt; ended, status, "{line}");
     assert_eq!(rt; written.as_slice(), text.as_bytes(), "{line}");

@@ -33,6 +33,7 @@ use lensreport::rows::print_trace_head;
 use lensreport::spot::{Spot, Statistics, print_spot};
 use lensreport::total::{Totals, print_total};
 use sagform::steps::Steps;
+use skewtrace::trace::blank;
 use spotfan::launch::{count, launch};
 use spotfan::tally::Tally;
 use std::sync::ledger::Ledger;
@@ -159,8 +160,9 @@ fn gather_rays<K: Sink>(
     ensures holds { OnOk result (AllHold lens.now.setup.now (launches.launches ask.now)) }
 {
     let single = is_single(ask);
+    let mut row = blank();
     for k in 0..count(ask) {
-        let row = lens.bench.row(lens.setup, &launch(ask, k));
+        lens.bench.row_into(lens.setup, &launch(ask, k), &mut row);
         totals.add(&row);
         tally.add(&row);
         gather_ray(single, first + k, &row, piece, out)?;

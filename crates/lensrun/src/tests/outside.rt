@@ -3,7 +3,7 @@
 ghost use Rattle.std.specs.Prelude.{◌≡◌, ◌<◌};
 
 use crate::run::run;
-use crate::tests::{FLAT, FLAT_BOOK, FLAT_INDEX, answer, files, words};
+use crate::tests::{FLAT, FLAT_BOOK, FLAT_INDEX, File, answer, files, words};
 use lensio::memory::{CalmShelf, MemShelf, MemSink};
 use lensmodel::status::Status;
 use sagform::steps::Steps;
@@ -13,55 +13,63 @@ use std::process::Abort;
 use std::sync::ledger::{Blank, Ledger};
 use std::test::Fail;
 
-/// Runs a line of words while one call of the shelf in turn fails, until none does.
-fn failing_reads<R: Abort, L: Ledger>(rt: &R, alloc: Global, blank: Blank) -> Result<(), Fail>
+/// Asserts how a line of words ends where one of these calls of the shelf fails, each in turn.
+pub(crate) fn failing_reads<R: Abort, L: Ledger>(
+    rt: &R,
+    alloc: Global,
+    held: &[File<'_>],
+    line: &str,
+    (first, last): (u64, u64),
+    (status, text): (Status, &str),
+    steps: &mut Steps<L>,
+) -> Result<(), Fail> {
+    for call in first..=last {
+        let fails = vec![in alloc; call]?;
+        let mut shelf = MemShelf::new(files(alloc, held)?, fails, 7);
+        let (ended, written) = answer(alloc, line, &mut shelf, steps)?;
+        assert_eq!(rt; ended, status, "{line}, call {call}");
+        assert_eq!(rt; written.as_slice(), text.as_bytes(), "{line}, call {call}");
+    }
+    Ok(())
+}
+
+fn all_failing_reads<R: Abort, L: Ledger>(rt: &R, alloc: Global, blank: Blank) -> Result<(), Fail>
     requires name { blank.name ≡ L.name }
     requires parts { blank.parts ≡ L.parts }
     requires some { 0 < L.parts }
 {
     let mut steps = Steps::<L>::start(blank);
-    // To choose, and then to read 36 bytes and the end.
-    for call in 1..=9u64 {
-        for (line, text) in [("index F FLAT 0.5", FLAT_INDEX), ("glass F", FLAT_BOOK)] {
-            let fails = vec![in alloc; call]?;
-            let mut shelf = MemShelf::new(files(alloc, FLAT.as_bytes())?, fails, 7);
-            let (ended, written) = answer(alloc, line, &mut shelf, &mut steps)?;
-            let (status, text) = if call == 9 {
-                (Status::Done, text)
-            } else {
-                (Status::ReadFault, "read fault agf\n")
-            };
-            assert_eq!(rt; ended, status, "{line}, call {call}");
-            assert_eq!(rt; written.as_slice(), text.as_bytes(), "{line}, call {call}");
-        }
+    let held = [("F", FLAT)];
+    for (line, text) in [("index F FLAT 0.5", FLAT_INDEX), ("glass F", FLAT_BOOK)] {
+        // To choose, and then to read 36 bytes and the end.
+        let due = (Status::ReadFault, "read fault agf\n");
+        failing_reads(rt, alloc, &held, line, (1, 8), due, &mut steps)?;
+        let due = (Status::Done, text);
+        failing_reads(rt, alloc, &held, line, (9, 9), due, &mut steps)?;
     }
     Ok(())
 }
 
 #[test]
 fn each_call_of_the_shelf_fails_in_turn(rt: HostRuntime) -> Result<(), Fail> {
-    failing_reads::<HostRuntime, Brand>(&rt, rt.alloc(), Blank::new(1))
+    all_failing_reads::<HostRuntime, Brand>(&rt, rt.alloc(), Blank::new(1))
 }
 
-/// How many calls of a sink with this piece fail, in turn, before the text is whole. Every other
-/// call takes nothing in place of failing.
+/// How many calls of a sink with this piece fail, in turn, or take nothing in place of failing, before
+/// the text is whole.
 fn failing_writes<R: Abort, L: Ledger>(
     rt: &R,
     alloc: Global,
-    line: &str,
-    text: &str,
-    piece: usize,
+    held: &[File<'_>],
+    (line, text): (&str, &str),
+    (piece, is_idle): (usize, bool),
     steps: &mut Steps<L>,
 ) -> Result<u64, Fail> {
     let all = words(alloc, line)?;
-    for call in 1..=200u64 {
-        let mut shelf = CalmShelf::new(files(alloc, FLAT.as_bytes())?, 7);
+    for call in 1..=500u64 {
+        let mut shelf = CalmShelf::new(files(alloc, held)?, 7);
         let (stop, none) = (vec![in alloc; call]?, Vec::new(alloc));
-        let (fails, idle) = if call % 2 == 1 {
-            (stop, none)
-        } else {
-            (none, stop)
-        };
+        let (fails, idle) = if is_idle { (none, stop) } else { (stop, none) };
         let mut sink = MemSink::new(alloc, 2048, fails, idle, piece.max(1))?;
         let ended = run(alloc, all.as_slice(), &mut shelf, &mut sink, steps);
         let written = sink.bytes().ok_or("the sink has no room")?;
@@ -79,12 +87,30 @@ fn failing_writes<R: Abort, L: Ledger>(
     Ok(0)
 }
 
+/// Asserts that so many calls of a sink with this piece fail, in turn, and that so many take nothing,
+/// before the text is whole.
+pub(crate) fn expect_failing_writes<R: Abort, L: Ledger>(
+    rt: &R,
+    alloc: Global,
+    held: &[File<'_>],
+    (line, text): (&str, &str),
+    (piece, calls): (usize, u64),
+    steps: &mut Steps<L>,
+) -> Result<(), Fail> {
+    let failed = failing_writes(rt, alloc, held, (line, text), (piece, false), steps)?;
+    assert_eq!(rt; failed, calls, "{line}, piece {piece}");
+    let idle = failing_writes(rt, alloc, held, (line, text), (piece, true), steps)?;
+    assert_eq!(rt; idle, calls, "{line}, piece {piece}");
+    Ok(())
+}
+
 fn all_failing_writes<R: Abort, L: Ledger>(rt: &R, alloc: Global, blank: Blank) -> Result<(), Fail>
     requires name { blank.name ≡ L.name }
     requires parts { blank.parts ≡ L.parts }
     requires some { 0 < L.parts }
 {
     let mut steps = Steps::<L>::start(blank);
+    let held = [("F", FLAT)];
     for (line, text, piece, calls) in [
         ("index F FLAT 0.5", FLAT_INDEX, 1usize, 48u64),
         ("index F FLAT 0.5", FLAT_INDEX, 7, 7),
@@ -93,8 +119,7 @@ fn all_failing_writes<R: Abort, L: Ledger>(rt: &R, alloc: Global, blank: Blank) 
         ("glass", "usage\n", 1, 6),
         ("glass G", "absent agf\n", 7, 2),
     ] {
-        let failed = failing_writes(rt, alloc, line, text, piece, &mut steps)?;
-        assert_eq!(rt; failed, calls, "{line}, piece {piece}");
+        expect_failing_writes(rt, alloc, &held, (line, text), (piece, calls), &mut steps)?;
     }
     Ok(())
 }

@@ -12,23 +12,23 @@ use std::process::Abort;
 use std::sync::ledger::{Blank, Ledger};
 use std::test::Fail;
 
-const CROWN: &str =
-    "CC catalogue for one glass\nNM N-BK7 2 517642.251 1.5168 64.17 0 1\nGC borosilicate crown\nED 7.1 8.3 2.51 -0.0009 0\nTD 1.86E-06 1.31E-08 -1.37E-11 4.34E-07 6.27E-10 0.17 20\nCD 1.03961212 0.00600069867 0.231792344 0.0200179144 1.01046945 103.560653 0 0 0 0\nOD 1 1 2 0 1 1\nLD 0.31 2.5\nIT 0.31 0.37 25\n";
+const CROWN: &[u8] =
+    b"CC catalogue for one glass\nNM N-BK7 2 517642.251 1.5168 64.17 0 1\nGC borosilicate crown\nED 7.1 8.3 2.51 -0.0009 0\nTD 1.86E-06 1.31E-08 -1.37E-11 4.34E-07 6.27E-10 0.17 20\nCD 1.03961212 0.00600069867 0.231792344 0.0200179144 1.01046945 103.560653 0 0 0 0\nOD 1 1 2 0 1 1\nLD 0.31 2.5\nIT 0.31 0.37 25\n";
 
-const POLE: &str = "NM POLE 2 0 1 0\nCD 1 0.25\n";
+const POLE: &[u8] = b"NM POLE 2 0 1 0\nCD 1 0.25\n";
 
-const ORPHAN: &str = "CD 1 0.25\nNM POLE 2 0 1 0\n";
+const ORPHAN: &[u8] = b"CD 1 0.25\nNM POLE 2 0 1 0\n";
 
-const TWO: &str = "NM FLAT 1 0 1.5 0\nCD 2.25 0 0 0 0 0\nNM flat 2\nNM OTHER 13\nLD 0.4 0.7\n";
+const TWO: &[u8] = b"NM FLAT 1 0 1.5 0\nCD 2.25 0 0 0 0 0\nNM flat 2\nNM OTHER 13\nLD 0.4 0.7\n";
 
-const LENS: &str =
-    "SURF 0\nDISZ INFINITY\nSURF 1\nTYPE EVENASPH\nCURV 0.05\nDISZ 2.5\nGLAS FLAT\nDIAM 5 1\nPARM 2 -1e-5\nSTOP\nSURF 2\nGLAS MIRROR\nDISZ -1\nSURF 3\nWAVM 2 0.55 1\nPWAV 2\nUNIT MM\nVERS 1\nUNIT MM\n";
+const LENS: &[u8] =
+    b"SURF 0\nDISZ INFINITY\nSURF 1\nTYPE EVENASPH\nCURV 0.05\nDISZ 2.5\nGLAS FLAT\nDIAM 5 1\nPARM 2 -1e-5\nSTOP\nSURF 2\nGLAS MIRROR\nDISZ -1\nSURF 3\nWAVM 2 0.55 1\nPWAV 2\nUNIT MM\nVERS 1\nUNIT MM\n";
 
 const LENS_LINES: &str =
     "lens surfaces 4 stop 1 primary 2\nsurf 0 STANDARD c 0 k 0 d INFINITY rim - glass -\nsurf 1 EVENASPH c 5e-2 k 0 d 25e-1 rim 5 glass FLAT\nparm 1 2 -1e-5\nzone 1 [5.500000000,5.500000000]\nsurf 2 STANDARD c 0 k 0 d -1 rim - glass MIRROR\nsurf 3 STANDARD c 0 k 0 d 0 rim - glass -\nwave 2 55e-2\nunused UNIT 2\nunused VERS 1\n";
 
 /// A file, a line of words, and the text that is due.
-type Row = (&'static str, &'static str, &'static str);
+type Row = (&'static [u8], &'static str, &'static str);
 
 const REPORTS: [Row; 9] = [
     (LENS, "read F", LENS_LINES),
@@ -64,12 +64,12 @@ const REPORTS: [Row; 9] = [
 
 const REFUSALS: [Row; 7] = [
     (
-        "SURF 0\nSURF 1\nCURV x\n",
+        b"SURF 0\nSURF 1\nCURV x\n",
         "read F",
         "refused zmx bad-number line 3 word 2\n",
     ),
     (
-        "SURF 0\nSURF 1\nSURF 2\n",
+        b"SURF 0\nSURF 1\nSURF 2\n",
         "read F",
         "refused zmx stop-count\n",
     ),
@@ -104,11 +104,11 @@ fn tables<R: Abort, L: Ledger>(rt: &R, alloc: Global, blank: Blank) -> Result<()
     let mut steps = Steps::<L>::start(blank);
     for (catalogue, line, text) in REPORTS {
         let due = (Status::Done, text);
-        expect(rt, alloc, catalogue.as_bytes(), line, due, &mut steps)?;
+        expect(rt, alloc, &[("F", catalogue)], line, due, &mut steps)?;
     }
     for (catalogue, line, text) in REFUSALS {
         let due = (Status::Refused, text);
-        expect(rt, alloc, catalogue.as_bytes(), line, due, &mut steps)?;
+        expect(rt, alloc, &[("F", catalogue)], line, due, &mut steps)?;
     }
     for (line, text) in [
         ("index G FLAT 0.5", "absent agf\n"),
@@ -116,7 +116,7 @@ fn tables<R: Abort, L: Ledger>(rt: &R, alloc: Global, blank: Blank) -> Result<()
         ("read G", "absent zmx\n"),
     ] {
         let due = (Status::Absent, text);
-        expect(rt, alloc, FLAT.as_bytes(), line, due, &mut steps)?;
+        expect(rt, alloc, &[("F", FLAT)], line, due, &mut steps)?;
     }
     Ok(())
 }
@@ -126,12 +126,17 @@ fn reports_and_refusals(rt: HostRuntime) -> Result<(), Fail> {
     tables::<HostRuntime, Brand>(&rt, rt.alloc(), Blank::new(1))
 }
 
-const MISFITS: [&str; 11] = [
+const MISFITS: [&str; 16] = [
     "read",
     "read F F",
     "glass",
     "glass F F",
     "Glass F",
+    "trace F F",
+    "trace F F F F F",
+    "trace-json F F",
+    "trace-json F F F F F",
+    "trace_json F F F",
     "index F FLAT",
     "index F FLAT 0",
     "index F FLAT -0.5",
@@ -149,15 +154,15 @@ fn usages<R: Abort, L: Ledger>(rt: &R, alloc: Global, blank: Blank) -> Result<()
     let mut steps = Steps::<L>::start(blank);
     for line in MISFITS {
         let due = (Status::Usage, "usage\n");
-        expect(rt, alloc, FLAT.as_bytes(), line, due, &mut steps)?;
+        expect(rt, alloc, &[("F", FLAT)], line, due, &mut steps)?;
     }
     // A name of 40 bytes, and a wavelength of 64.
     let line = "index F 1234567890123456789012345678901234567890 1";
     let due = (Status::Refused, "refused cross no-glass surface 0\n");
-    expect(rt, alloc, FLAT.as_bytes(), line, due, &mut steps)?;
+    expect(rt, alloc, &[("F", FLAT)], line, due, &mut steps)?;
     let line = "index F FLAT 00000000000000000000000000000000000000000000000000000000000000.5";
     let due = (Status::Done, FLAT_INDEX);
-    expect(rt, alloc, FLAT.as_bytes(), line, due, &mut steps)
+    expect(rt, alloc, &[("F", FLAT)], line, due, &mut steps)
 }
 
 #[test]
@@ -178,9 +183,9 @@ fn large_files<R: Abort, L: Ledger>(rt: &R, alloc: Global, blank: Blank) -> Resu
     let long = vec![in alloc; b' '; FILE_LIMIT + 1]?;
     for line in ["index F A 1", "glass F"] {
         let due = (Status::Refused, "refused agf too-many-glasses line 4097\n");
-        expect(rt, alloc, lines.as_slice(), line, due, &mut steps)?;
+        expect(rt, alloc, &[("F", lines.as_slice())], line, due, &mut steps)?;
         let due = (Status::TooLong, "too long agf\n");
-        expect(rt, alloc, long.as_slice(), line, due, &mut steps)?;
+        expect(rt, alloc, &[("F", long.as_slice())], line, due, &mut steps)?;
     }
     Ok(())
 }

@@ -12,17 +12,17 @@ use Rattle.lensrun.proofs.Reaches.{row-fits}
 use Rattle.lensrun.proofs.json.write_rows.Goals as goal
 
 pub json_row-requires-clause-low : goal.json_row-requires-clause-low
-json_row-requires-clause-low g c = omega (arith, (row-fits c.args.lens.now.setup.now c.launch.result c.row-row.result c.row-row.ensures.exact).low)
+json_row-requires-clause-low g c = omega (arith, (row-fits c.args.lens.now.setup.now c.launch.result c.row_into.new.row c.row_into.ensures.exact).low)
 
 pub json_row-requires-clause-high : goal.json_row-requires-clause-high
-json_row-requires-clause-high g c = (row-fits c.args.lens.now.setup.now c.launch.result c.row-row.result c.row-row.ensures.exact).high
+json_row-requires-clause-high g c = (row-fits c.args.lens.now.setup.now c.launch.result c.row_into.new.row c.row_into.ensures.exact).high
 
 pub returns-in_err-line-clause-front : goal.returns-in_err-line-clause-front
 returns-in_err-line-clause-front g c =
     let p = err_from_is_err_and c.from_residual.result c.from_residual.ensures.1 in
     let s = c.args.lens.now.setup.now in
     let a = c.args.ask.now in
-    let at = row-at s a c.loop-k.k c.launch.result c.launch.ensures ∙ ap Some (sym c.row-row.ensures.exact) in
+    let at = row-at s a c.loop-k.k c.launch.result c.launch.ensures ∙ ap Some (sym c.row_into.ensures.exact) in
     rw p.1 (text_front json_line c.args.first (rows_of s a) _ (json_rows-are c.args.first (rows_of s a)) _ _ _ [] [] [] _ c.loop-k.k _ at refl
     c.loop-k.invariant.gathers (front-none _ _))
 
@@ -31,7 +31,7 @@ returns-in_err-put-clause-front g c =
     let p = err_from_is_err_and c.from_residual-in_err-put.result c.from_residual-in_err-put.ensures.1 in
     let s = c.args.lens.now.setup.now in
     let a = c.args.ask.now in
-    let at = row-at s a c.loop-k.k c.launch.result c.launch.ensures ∙ ap Some (sym c.row-row.ensures.exact) in
+    let at = row-at s a c.loop-k.k c.launch.result c.launch.ensures ∙ ap Some (sym c.row_into.ensures.exact) in
     rw p.1 (text_front json_line c.args.first (rows_of s a) _ (json_rows-are c.args.first (rows_of s a)) _ _ _ [] [] [] _ c.loop-k.k _ at
     (c.as_slice.ensures.value ∙ c.in_ok-line.ensures) c.loop-k.invariant.gathers c.in_err-put.ensures.front)
 
@@ -40,12 +40,12 @@ loop-k-preserved g c =
     let s = c.args.lens.now.setup.now in
     let a = c.args.ask.now in
     let q = c.launch.result in
-    let at = row-at s a c.loop-k.k q c.launch.ensures ∙ ap Some (sym c.row-row.ensures.exact) in
+    let at = row-at s a c.loop-k.k q c.launch.ensures ∙ ap Some (sym c.row_into.ensures.exact) in
     record {
       gathers = text_next json_line c.args.first (rows_of s a) _ (json_rows-are c.args.first (rows_of s a)) _ _ _ [] [] [] _ c.loop-k.k _ at
           (c.as_slice.ensures.value ∙ c.in_ok-line.ensures) c.loop-k.invariant.gathers (gathers-taken _ _ _ c.in_ok-put.ensures.ok);
       calm = search rules;
-      holds = hold-next s a c.loop-k.k q c.launch.ensures (subst (RowHolds s q) c.row-row.ensures.exact c.row-row.ensures.encloses) c.loop-k.invariant.holds;
+      holds = hold-next s a c.loop-k.k q c.launch.ensures (subst (RowHolds s q) c.row_into.ensures.exact c.row_into.ensures.encloses) c.loop-k.invariant.holds;
     }
 
 pub returns-clause-ok : goal.returns-clause-ok

@@ -12,27 +12,27 @@ use Rattle.lensrun.proofs.Reaches.{row-fits}
 use Rattle.lensrun.proofs.trace.gather_rays.Goals as goal
 
 pub add-requires-in-loop-k-clause-low : goal.add-requires-in-loop-k-clause-low
-add-requires-in-loop-k-clause-low g c = (row-fits c.args.lens.now.setup.now c.launch.result c.row-row.result c.row-row.ensures.exact).low
+add-requires-in-loop-k-clause-low g c = (row-fits c.args.lens.now.setup.now c.launch.result c.row_into.new.row c.row_into.ensures.exact).low
 
 pub add-requires-in-loop-k-clause-high : goal.add-requires-in-loop-k-clause-high
-add-requires-in-loop-k-clause-high g c = (row-fits c.args.lens.now.setup.now c.launch.result c.row-row.result c.row-row.ensures.exact).high
+add-requires-in-loop-k-clause-high g c = (row-fits c.args.lens.now.setup.now c.launch.result c.row_into.new.row c.row_into.ensures.exact).high
 
 pub gather_ray-requires-clause-low : goal.gather_ray-requires-clause-low
 gather_ray-requires-clause-low g c =
-    omega (arith, (row-fits c.args.lens.now.setup.now c.launch.result c.row-row.result c.row-row.ensures.exact).low)
+    omega (arith, (row-fits c.args.lens.now.setup.now c.launch.result c.row_into.new.row c.row_into.ensures.exact).low)
 
 pub gather_ray-requires-clause-high : goal.gather_ray-requires-clause-high
-gather_ray-requires-clause-high g c = (row-fits c.args.lens.now.setup.now c.launch.result c.row-row.result c.row-row.ensures.exact).high
+gather_ray-requires-clause-high g c = (row-fits c.args.lens.now.setup.now c.launch.result c.row_into.new.row c.row_into.ensures.exact).high
 
 pub returns-in_err-gather_ray-clause-front : goal.returns-in_err-gather_ray-clause-front
 returns-in_err-gather_ray-clause-front g c =
     let p = err_from_is_err_and c.from_residual.result c.from_residual.ensures.1 in
     let s = c.args.lens.now.setup.now in
     let a = c.args.ask.now in
-    let at = row-at s a c.loop-k.k c.launch.result c.launch.ensures ∙ ap Some (sym c.row-row.ensures.exact) in
+    let at = row-at s a c.loop-k.k c.launch.result c.launch.ensures ∙ ap Some (sym c.row_into.ensures.exact) in
     rw p.1 (text_front (ray_lines (is_single a)) c.args.first (rows_of s a) _ (rays-are (is_single a) c.args.first (rows_of s a))
     _ _ _ _ [] c.args.piece.now.bytes _ c.loop-k.k _ at
-    (ap (λ b. ray_lines b (c.args.first + c.loop-k.k) c.row-row.result) c.is_single-single.ensures)
+    (ap (λ b. ray_lines b (c.args.first + c.loop-k.k) c.row_into.new.row) c.is_single-single.ensures)
     c.loop-k.invariant.gathers c.in_err-gather_ray.ensures.front)
 
 pub loop-k-preserved : goal.loop-k-preserved
@@ -40,18 +40,18 @@ loop-k-preserved g c =
     let s = c.args.lens.now.setup.now in
     let a = c.args.ask.now in
     let q = c.launch.result in
-    let at = row-at s a c.loop-k.k q c.launch.ensures ∙ ap Some (sym c.row-row.ensures.exact) in
+    let at = row-at s a c.loop-k.k q c.launch.ensures ∙ ap Some (sym c.row_into.ensures.exact) in
     record {
       gathers = text_next (ray_lines (is_single a)) c.args.first (rows_of s a) _ (rays-are (is_single a) c.args.first (rows_of s a))
           _ _ _ _ _ c.args.piece.now.bytes _ c.loop-k.k _ at
-          (ap (λ b. ray_lines b (c.args.first + c.loop-k.k) c.row-row.result) c.is_single-single.ensures)
+          (ap (λ b. ray_lines b (c.args.first + c.loop-k.k) c.row_into.new.row) c.is_single-single.ensures)
           c.loop-k.invariant.gathers c.in_ok-gather_ray.ensures.ok;
       calm = search rules;
       totals = counts-next _ _ _ (rows_of s a) c.loop-k.k _ at c.loop-k.invariant.totals c.add.ensures.counts;
       rays = omega (arith, c.add.ensures.rays, c.loop-k.invariant.rays);
       tally = sums-next _ _ (rows_of s a) c.loop-k.k _ at c.loop-k.invariant.tally c.add-in-loop-k.ensures.sums;
       number = omega (arith, c.add-in-loop-k.ensures.rows, c.loop-k.invariant.number);
-      holds = hold-next s a c.loop-k.k q c.launch.ensures (subst (RowHolds s q) c.row-row.ensures.exact c.row-row.ensures.encloses) c.loop-k.invariant.holds;
+      holds = hold-next s a c.loop-k.k q c.launch.ensures (subst (RowHolds s q) c.row_into.ensures.exact c.row_into.ensures.encloses) c.loop-k.invariant.holds;
     }
 
 pub returns-clause-ok : goal.returns-clause-ok
