@@ -1,0 +1,7 @@
+mod Advancing
+mod Choices
+mod Counts
+mod Firsts
+mod Onwards
+mod Parts
+mod Samples

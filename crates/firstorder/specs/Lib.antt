@@ -1,0 +1,5 @@
+pub mod Advances
+pub mod Samples
+pub mod Stepped
+pub mod Tracks
+pub mod Workings
