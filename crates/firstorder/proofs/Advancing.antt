@@ -7,7 +7,7 @@ use Rattle.fixdec.specs.Member.{Symbols}
 use Rattle.fixdec.specs.Operations.{Operations, IsLawful}
 use Rattle.fixdec.specs.Steps.{OnVal, OnVal-then}
 use Rattle.firstorder.specs.Advances.{Advances, HoldsAdvance}
-use Rattle.lensmodel.specs.Paraxial.Laws.{vertex_curvature_member, slope_behind_member, next_height_member}
+use Rattle.firstorder.specs.ParaxialLaws.{vertex_curvature_member, slope_behind_member, next_height_member}
 use Rattle.lensmodel.specs.Paraxial.Trace.{AreIndices, signed_index, vertex_curvature}
 use Rattle.lensmodel.specs.Paraxial.TraceRows.{vertex_curvature_row, signed_row, signed_index_row, advanced_slope, advance_rows}
 use Rattle.lensmodel.specs.Rows.Constants.{whole_row}

@@ -17,7 +17,7 @@ use Rattle.firstorder.specs.Tracks.{OnDone, HoldsPassing, HoldsTrack}
 use Rattle.lensmodel.specs.Equations.Residual.{IsWithin}
 use Rattle.lensmodel.specs.Paraxial.FirstOrder.{FirstChain, IsFirstChain, Holds, HoldsFirst, one_decimal}
 use Rattle.lensmodel.specs.Paraxial.FirstOrderRows.{Passing, ray_rows, ray_row, first_of, last_of, heights, height_at, nothing, trail_of, enp_rows, value_rows, first_attempt}
-use Rattle.lensmodel.specs.Paraxial.Laws.{over_member, minus_over_member, efl_member, front_member}
+use Rattle.firstorder.specs.ParaxialLaws.{over_member, minus_over_member, efl_member, front_member}
 use Rattle.lensmodel.specs.Paraxial.Losses.{Worked, done, gone, to_step, hull_step, row}
 use Rattle.lensmodel.specs.Paraxial.Trace.{ParaxialRay, signed_index, last_surface}
 use Rattle.lensmodel.specs.Rows.Laws.{Covers, on_same}

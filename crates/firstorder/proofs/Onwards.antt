@@ -13,7 +13,7 @@ use Rattle.firstorder.proofs.Advancing.{cv-member, index-member}
 use Rattle.firstorder.specs.Stepped.{slope_from, height_from}
 use Rattle.firstorder.specs.Tracks.{OnDone, HoldsPassing, HoldsTrack}
 use Rattle.lensmodel.specs.Paraxial.FirstOrderRows.{Passing, passing, onwards, ray_rows, ray_row}
-use Rattle.lensmodel.specs.Paraxial.Laws.{slope_behind_member, next_height_member}
+use Rattle.firstorder.specs.ParaxialLaws.{slope_behind_member, next_height_member}
 use Rattle.lensmodel.specs.Paraxial.Losses.{Worked, done, gone, of_step, to_step, unless_gone, first_gone, row}
 use Rattle.lensmodel.specs.Paraxial.Trace.{ParaxialRay, AreIndices, IsParaxial, IsParaxialFrom, signed_index, vertex_curvature}
 use Rattle.lensmodel.specs.Paraxial.TraceRows.{vertex_curvature_row, signed_index_row}

@@ -1,4 +1,5 @@
 pub mod Advances
+pub mod ParaxialLaws
 pub mod Samples
 pub mod Stepped
 pub mod Tracks

@@ -1,6 +1,8 @@
 pub mod Encloses
 pub mod Held
 pub mod RowLaws
+pub mod SeidelLaws
+pub mod SumLaws
 pub mod SurfaceLaws
 pub mod Surfaces
 pub mod WholeLaws

@@ -10,8 +10,8 @@ use Rattle.fixdec.specs.declared.step.Step.{Step}
 use Rattle.lensmodel.specs.Equations.Residual.{IsWithin}
 use Rattle.lensmodel.specs.Paraxial.Losses.{Worked, to_step}
 use Rattle.lensmodel.specs.Paraxial.Seidel.{IsInverse, cube}
-use Rattle.lensmodel.specs.Paraxial.SeidelLaws.{invariant_member, lagrange_member, petzval_member, slope_change_member, square_change_member, asphericity_member}
-use Rattle.lensmodel.specs.Paraxial.SumLaws.{s1_member, s2_member, s3_member, s4_member, s5_member}
+use Rattle.seidel.specs.SeidelLaws.{invariant_member, lagrange_member, petzval_member, slope_change_member, square_change_member, asphericity_member}
+use Rattle.seidel.specs.SumLaws.{s1_member, s2_member, s3_member, s4_member, s5_member}
 use Rattle.lensmodel.specs.Paraxial.Trace.{even_coefficient}
 use Rattle.lensmodel.specs.Rows.Laws.{Covers}
 use Rattle.lensmodel.specs.declared.surface.Surface.{Surface}
