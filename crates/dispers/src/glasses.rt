@@ -43,7 +43,8 @@ pub(crate) fn media(
     book: &GlassBook,
 ) -> Result<ArrayVec<Medium, 64>, CrossFault>
     requires { length surfaces.now ≤ 64 }
-    ensures { result ≡ ok_unless (first_fault (each_from (checks.glass_fault book.now) 0 surfaces.now))
+    ensures { result ≡ ok_unless
+        (first_fault (each_from (checks.glass_fault book.now) 0 surfaces.now))
         (record { items = map (λ f. unwrap_or (joining.medium_behind book.now f) Air) surfaces.now }) }
 {
     let mut media: ArrayVec<Medium, 64> = ArrayVec::new();

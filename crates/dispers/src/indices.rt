@@ -49,7 +49,8 @@ fn index_behind(s: &Setup, j: u32) -> Step<Iv<12>>
     requires media { length s.now.media.items + 1 ≡ length s.now.lens.surfaces.items }
     requires known { All IsKnown s.now.media.items }
     requires toler { IsBox (values.image s.now) (values.tolerances s.now.toler) }
-    ensures { result ≡ rows.index_row (operations 12) 12 s.now (constants.residual_units 12 s.now.res) j }
+    ensures { result ≡ rows.index_row (operations 12) 12 s.now
+        (constants.residual_units 12 s.now.res) j }
 {
     let e = residual_units(12, s.res);
     let n = val!(medium_index(medium(s, j), &s.wave, e));

@@ -55,7 +55,8 @@ pub fn find<'a>(book: &'a GlassBook, name: &Name, wave: &Dec) -> Result<Picked<'
     ensures exact { result ≡ picking.picked book.now name.now.items wave.now }
 
     // Each index of the glass within 10^-12 lies in the printed interval, which is from 1 to 5.
-    ensures holds { IfOk result (λ p. (n : Frac) → IsGlassIndex (residual 12) p.glass wave.now n → IsMember 12 p.index n) }
+    ensures holds { IfOk result
+        (λ p. (n : Frac) → IsGlassIndex (residual 12) p.glass wave.now n → IsMember 12 p.index n) }
 {
     match book.find(name) {
         Some(glass) => usable(glass, wave),
@@ -66,10 +67,12 @@ pub fn find<'a>(book: &'a GlassBook, name: &Name, wave: &Dec) -> Result<Picked<'
 /// The medium of the glass that `find` gives, refused as there.
 pub fn pick(book: &GlassBook, name: &Name, wave: &Dec) -> Result<Medium, CrossFault>
     requires { pos 0 <ℤ wave.now.mant }
-    ensures exact { result ≡ picking.picked_medium (picking.picked book.now name.now.items wave.now) }
+    ensures exact { result
+        ≡ picking.picked_medium (picking.picked book.now name.now.items wave.now) }
 
     // Each index of the medium within 10^-12 is from 1 to 5.
-    ensures sound { IfOk result (λ m. (n : Frac) → IsIndex (residual 12) m wave.now n → IsFrom1To5 n) }
+    ensures sound { IfOk result
+        (λ m. (n : Frac) → IsIndex (residual 12) m wave.now n → IsFrom1To5 n) }
 {
     match find(book, name, wave) {
         Ok(picked) => Ok(Medium::Of(picked.glass.copy())),

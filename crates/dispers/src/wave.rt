@@ -56,7 +56,8 @@ fn is_outside(wave: &Dec, medium: &Medium) -> bool
 /// WaveRange at the first medium whose range the wavelength is outside of.
 pub(crate) fn check_ranges(wave: &Dec, media: &[Medium]) -> Result<(), CrossFault>
     requires { length media.now ≤ 64 }
-    ensures { result ≡ ok_unless (first_fault (each_from (checks.range_fault wave.now) 0 media.now)) tt }
+    ensures { result ≡ ok_unless
+        (first_fault (each_from (checks.range_fault wave.now) 0 media.now)) tt }
 {
     for (j, medium) in media.iter().enumerate() {
         if is_outside(wave, medium) {

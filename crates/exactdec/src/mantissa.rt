@@ -88,7 +88,8 @@ impl Mantissa {
     /// The number with one more digit, which isn't 0.
     fn value_with(&self, digit: u16) -> u128
         requires { IsDigit digit }
-        ensures { self.now.seen < 30 → result ≡ self.now.value * 10 ^ (self.now.seen - self.now.kept + 1) + (digit - 48) }
+        ensures { self.now.seen < 30
+            → result ≡ self.now.value * 10 ^ (self.now.seen - self.now.kept + 1) + (digit - 48) }
     {
         if self.seen >= 30 {
             return 0;

@@ -39,7 +39,8 @@ pub fn read(word: &[u16]) -> Result<Dec, DecFault>
     ensures exact { result ≡ reading word.now }
     ensures decimal { result_ok result ≡ decimal_of word.now }
     // Whatever zeros it is written with, the value is mantissa times power of ten.
-    ensures value { IfOk result (λ d. (p : Written) → Spells word.now p → value d ≈ value (written_decimal p)) }
+    ensures value { IfOk result
+        (λ d. (p : Written) → Spells word.now p → value d ≈ value (written_decimal p)) }
 {
     let parts = split(word)?;
     judge(&parts)
@@ -248,7 +249,8 @@ fn judge(parts: &Parts<'_>) -> Result<Dec, DecFault>
 /// from -60 to 30.
 fn exponent_of(parts: &Parts<'_>, zeros: usize) -> Option<i32>
     requires { AreDigits parts.now.power.now }
-    ensures { let exp = signed_number parts.now.power_sign.now (number parts.now.power.now) -ℤ pos (length parts.now.part.now) +ℤ pos zeros in
+    ensures { let exp = signed_number parts.now.power_sign.now (number parts.now.power.now)
+        -ℤ pos (length parts.now.part.now) +ℤ pos zeros in
         MatchOption result (is_readable exp ≡ false) (λ r. (r ≡ exp) × (is_readable exp ≡ true)) }
 {
     let power = signed(parts.power_sign, power_of(parts.power));
@@ -258,7 +260,8 @@ fn exponent_of(parts: &Parts<'_>, zeros: usize) -> Option<i32>
 
 /// The exponent, where it is from -60 to 30.
 fn readable(exp: i128) -> Option<i32>
-    ensures { MatchOption result (is_readable exp ≡ false) (λ r. (r ≡ exp) × (is_readable exp ≡ true)) }
+    ensures { MatchOption result (is_readable exp ≡ false)
+        (λ r. (r ≡ exp) × (is_readable exp ≡ true)) }
 {
     if exp < -60 || 30 < exp {
         return None;

@@ -40,11 +40,15 @@ pub fn slanted_plane() -> Worked
     ensures media { IsTrue (equal_media result.setup 0) }
     ensures chain { (symbols : Symbols) → IsWhole result.setup result.ray (slanted_chain symbols) }
     ensures vertex { (symbols : Symbols) → HoldsPlace 6 slanted_vertex (slanted_chain symbols) 1 }
-    ensures heading { (symbols : Symbols) → HoldsHeading 6 slanted_heading (slanted_chain symbols) 1 }
+    ensures heading { (symbols : Symbols)
+        → HoldsHeading 6 slanted_heading (slanted_chain symbols) 1 }
     ensures image { (symbols : Symbols) → HoldsPlace 6 slanted_image (slanted_chain symbols) 2 }
     // The height at the image may be off by the residual, and not by more than twice that.
-    ensures within { (y : Frac) (symbols : Symbols) → IsWithin (eps result.setup) y (whole (pos 3)) → IsWhole result.setup result.ray (slanted_to y symbols) }
-    ensures beyond { (y : Frac) (symbols : Symbols) → IsWhole result.setup result.ray (slanted_to y symbols) → IsWithin (eps result.setup +Q eps result.setup) y (whole (pos 3)) }
+    ensures within { (y : Frac) (symbols : Symbols) → IsWithin (eps result.setup) y (whole (pos 3))
+        → IsWhole result.setup result.ray (slanted_to y symbols) }
+    ensures beyond { (y : Frac) (symbols : Symbols)
+        → IsWhole result.setup result.ray (slanted_to y symbols)
+        → IsWithin (eps result.setup +Q eps result.setup) y (whole (pos 3)) }
 {
     Worked {
         setup: setup_in_air(plane_surface(Some(Dec { mant: 4, exp: 0 }))),
@@ -90,7 +94,8 @@ pub fn glass_height() -> Worked
 pub fn total_reflection() -> Worked
     ensures setup { result.setup ≡ glass_setup }
     ensures ray { result.ray ≡ steep_ray }
-    ensures reaches { (symbols : Symbols) → IsChainTo result.setup result.ray 1 (steep_chain symbols) }
+    ensures reaches { (symbols : Symbols)
+        → IsChainTo result.setup result.ray 1 (steep_chain symbols) }
     ensures tir { WordHolds (Word.Tir 1) result.setup result.ray }
 {
     let mut object = plane_surface(None);
@@ -107,9 +112,12 @@ pub fn total_reflection() -> Worked
 pub fn rim_tie() -> Worked
     ensures setup { result.setup ≡ rim_setup }
     ensures ray { result.ray ≡ level_ray (whole_decimal (pos 5)) }
-    ensures chains { (y : Frac) (symbols : Symbols) → IsWithin (eps result.setup) y (whole (pos 5)) → IsWhole result.setup result.ray (level_chain y symbols) }
-    ensures clears { (y : Frac) (symbols : Symbols) → whole (pos 0) ≤Q y → y ≤Q whole (pos 5) → ClearsAll result.setup (level_chain y symbols) }
-    ensures misses { (y : Frac) (symbols : Symbols) → whole (pos 5) <Q y → Clears result.setup (level_chain y symbols) 1 → ⊥ }
+    ensures chains { (y : Frac) (symbols : Symbols) → IsWithin (eps result.setup) y (whole (pos 5))
+        → IsWhole result.setup result.ray (level_chain y symbols) }
+    ensures clears { (y : Frac) (symbols : Symbols) → whole (pos 0) ≤Q y → y ≤Q whole (pos 5)
+        → ClearsAll result.setup (level_chain y symbols) }
+    ensures misses { (y : Frac) (symbols : Symbols) → whole (pos 5) <Q y
+        → Clears result.setup (level_chain y symbols) 1 → ⊥ }
 {
     Worked {
         setup: setup_in_air(rim_surface()),

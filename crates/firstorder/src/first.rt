@@ -66,7 +66,8 @@ fn is_lost_by_range<const S: u32>(
     asked: &Track<S>,
     v: &FirstRows<Iv<S>>,
 ) -> bool
-    ensures { result ≡ losses.some_by_range (rows.rows_of a.now ++ rows.rows_of b.now ++ rows.rows_of asked.now
+    ensures { result ≡ losses.some_by_range
+        (rows.rows_of a.now ++ rows.rows_of b.now ++ rows.rows_of asked.now
         ++ (v.now.efl ∷ v.now.bfl ∷ v.now.ffl ∷ v.now.back ∷ v.now.front ∷ v.now.enp ∷ [])) }
 {
     let of_a = a.is_by_range();
@@ -108,7 +109,8 @@ fn values_at_scale<const S: u32>(s: &Setup, y: &Dec, u: &Dec) -> Attempt
         ≡ (rows.first_attempt (operations S) S s.now (units_of_residual S s.now.res) y.now u.now).out }
     ensures by_range { result.by_range
         ≡ (rows.first_attempt (operations S) S s.now (units_of_residual S s.now.res) y.now u.now).by_range }
-    ensures encloses { (c : FirstChain) → IsFirstChain s.now y.now u.now c → HoldsFirst s.now result.out c }
+    ensures encloses { (c : FirstChain) → IsFirstChain s.now y.now u.now c
+        → HoldsFirst s.now result.out c }
 {
     rows_of::<S>(s, y, u)
 }
@@ -122,7 +124,8 @@ pub fn first_order(s: &Setup, y: &Dec, u: &Dec) -> FirstOut
 
     // Each value lies in its interval, for every index within the residual and every two rays that
     // meet the paraxial equations within it.
-    ensures encloses { (c : FirstChain) → IsFirstChain s.now y.now u.now c → HoldsFirst s.now result c }
+    ensures encloses { (c : FirstChain) → IsFirstChain s.now y.now u.now c
+        → HoldsFirst s.now result c }
 {
     let at_15 = values_at_scale::<15>(s, y, u);
     if !at_15.by_range {

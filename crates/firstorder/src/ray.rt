@@ -233,7 +233,8 @@ fn slope_worked<T: Arith>(
     requires scale { T.SCALE ≤ 15 }
     requires low { pos 0 ≤ℤ e }
     requires high { InCap e }
-    ensures { worked result ≡ losses.row row (worked n ∷ worked u ∷ worked y ∷ worked cv ∷ worked n2 ∷ [])
+    ensures { worked result
+        ≡ losses.row row (worked n ∷ worked u ∷ worked y ∷ worked cv ∷ worked n2 ∷ [])
         (stepped.slope_from T.ops T.SCALE (losses.to_step (worked y)) (losses.to_step (worked u))
         (losses.to_step (worked cv)) (losses.to_step (worked n)) (losses.to_step (worked n2)) e) }
 {
@@ -298,7 +299,8 @@ fn rows_of<const S: u32>(s: &Setup, ray: u32, y: &Dec, u: &Dec) -> Track<S>
     requires well { IsWellFormed s.now }
     requires ray { ray ≤ 2 }
     ensures room { length result ≤ 62 }
-    ensures exact { result ≡ rows.ray_rows (operations S) S s.now (units_of_residual S s.now.res) ray y.now u.now }
+    ensures exact { result
+        ≡ rows.ray_rows (operations S) S s.now (units_of_residual S s.now.res) ray y.now u.now }
 {
     let mut list: ArrayVec<Passing<Iv<S>>, 64> = ArrayVec::new();
     let mut height = Worked::of_step(row_number(0, ray, 0), decimal::<Iv<S>>(y));
@@ -318,7 +320,8 @@ pub fn ray_through<const S: u32>(s: &Setup, ray: u32, y: &Dec, u: &Dec) -> Track
     requires scale { S ≤ 15 }
     requires well { IsWellFormed s.now }
     requires ray { ray ≤ 2 }
-    ensures exact { result ≡ rows.ray_rows (operations S) S s.now (units_of_residual S s.now.res) ray y.now u.now }
+    ensures exact { result
+        ≡ rows.ray_rows (operations S) S s.now (units_of_residual S s.now.res) ray y.now u.now }
     ensures count { length result + 1 ≡ values.image s.now }
     ensures room { length result ≤ 62 }
 

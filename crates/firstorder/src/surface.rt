@@ -104,7 +104,8 @@ pub(crate) fn signed_index<T: Arith>(s: &Setup, j: u32) -> Step<T>
     requires scale { T.SCALE ≤ 15 }
     requires well { IsWellFormed s.now }
     requires surface { j < values.image s.now }
-    ensures { result ≡ rows.signed_index_row T.ops T.SCALE s.now (units_of_residual T.SCALE s.now.res) j }
+    ensures { result ≡ rows.signed_index_row T.ops T.SCALE s.now
+        (units_of_residual T.SCALE s.now.res) j }
 {
     let n = val!(medium_index::<T>(medium(s, j), &s.wave, residual_units(T::SCALE, s.res)));
     signed(travel(s, j), n)
@@ -176,7 +177,8 @@ fn rows_at<T: Arith>(s: &Setup, j: u32, before: u32, y: T, u: T) -> Parax<T>
     requires well { IsWellFormed s.now }
     requires next { j ≡ suc before }
     requires surface { j < values.image s.now }
-    ensures { result ≡ rows.advance_rows T.ops T.SCALE s.now (units_of_residual T.SCALE s.now.res) before y u }
+    ensures { result ≡ rows.advance_rows T.ops T.SCALE s.now (units_of_residual T.SCALE s.now.res)
+        before y u }
 {
     let e = residual_units(T::SCALE, s.res);
     let cv = vertex_curvature(s, j);
@@ -200,7 +202,8 @@ pub fn advance<T: Arith>(s: &Setup, j: u32, y: T, u: T) -> Parax<T>
     requires well { IsWellFormed s.now }
     requires low { 1 ≤ j }
     requires high { j < values.image s.now }
-    ensures exact { result ≡ rows.advance_rows T.ops T.SCALE s.now (units_of_residual T.SCALE s.now.res) (j - 1) y u }
+    ensures exact { result
+        ≡ rows.advance_rows T.ops T.SCALE s.now (units_of_residual T.SCALE s.now.res) (j - 1) y u }
 
     // For members of the height and the slope, each answer holds the value that the equations give.
     ensures encloses { EnclosesAdvance T.member s.now (j - 1) y u result }

@@ -75,7 +75,8 @@ impl<T> Model for FirstRows<T> {
 /// `wd(a)/b`, from steps that may be lost.
 fn over<T: Arith>(s: &Setup, a: Step<T>, b: Step<T>) -> Step<T>
     requires { T.SCALE ≤ 15 }
-    ensures { result ≡ stepped.over_from T.ops T.SCALE s.now (units_of_residual T.SCALE s.now.res) a b }
+    ensures { result ≡ stepped.over_from T.ops T.SCALE s.now (units_of_residual T.SCALE s.now.res)
+        a b }
 {
     let a = val!(a);
     let b = val!(b);
@@ -85,7 +86,8 @@ fn over<T: Arith>(s: &Setup, a: Step<T>, b: Step<T>) -> Step<T>
 /// `wd(0 - a)/b`, from steps that may be lost.
 fn minus_over<T: Arith>(s: &Setup, a: Step<T>, b: Step<T>) -> Step<T>
     requires { T.SCALE ≤ 15 }
-    ensures { result ≡ stepped.minus_over_from T.ops T.SCALE s.now (units_of_residual T.SCALE s.now.res) a b }
+    ensures { result ≡ stepped.minus_over_from T.ops T.SCALE s.now
+        (units_of_residual T.SCALE s.now.res) a b }
 {
     let a = val!(a);
     let b = val!(b);
@@ -96,7 +98,8 @@ fn minus_over<T: Arith>(s: &Setup, a: Step<T>, b: Step<T>) -> Step<T>
 /// The effective focal length, `wd(0 - 1)/Ca`.
 fn focal_length<T: Arith>(s: &Setup, ca: Step<T>) -> Step<T>
     requires { T.SCALE ≤ 15 }
-    ensures { result ≡ stepped.efl_from T.ops T.SCALE s.now (units_of_residual T.SCALE s.now.res) ca }
+    ensures { result ≡ stepped.efl_from T.ops T.SCALE s.now (units_of_residual T.SCALE s.now.res)
+        ca }
 {
     let ca = val!(ca);
     minus_over(s, whole(1), Step::Val(ca))
@@ -115,7 +118,8 @@ fn difference<T: Arith>(a: Step<T>, b: Step<T>) -> Step<T>
 /// The front principal point, `ffl + ((n0*efl)/nk)`.
 fn front_point<T: Arith>(s: &Setup, ffl: Step<T>, n0: Step<T>, efl: Step<T>, nk: Step<T>) -> Step<T>
     requires { T.SCALE ≤ 15 }
-    ensures { result ≡ stepped.front_from T.ops T.SCALE s.now (units_of_residual T.SCALE s.now.res) ffl n0 efl nk }
+    ensures { result ≡ stepped.front_from T.ops T.SCALE s.now (units_of_residual T.SCALE s.now.res)
+        ffl n0 efl nk }
 {
     let ffl = val!(ffl);
     let n0 = val!(n0);
@@ -246,7 +250,8 @@ pub(crate) fn values_of<const S: u32>(s: &Setup, a: &Track<S>, b: &Track<S>) -> 
     requires well { IsWellFormed s.now }
     requires a { length a.now + 1 ≡ values.image s.now }
     requires b { length b.now + 1 ≡ values.image s.now }
-    ensures { result ≡ rows.value_rows (operations S) S s.now (units_of_residual S s.now.res) a.now b.now }
+    ensures { result ≡ rows.value_rows (operations S) S s.now (units_of_residual S s.now.res) a.now
+        b.now }
 {
     let image = s.lens.surfaces.len() as u32 - 1;
     let enp = entrance_pupil(s, row_number(image, 0, 5), a, b);

@@ -87,8 +87,10 @@ impl GlassBook {
     /// Adds a glass at the end. The answer is false, and nothing is changed, where a glass of the
     /// name is held already. Where there was no memory nothing is changed either.
     pub fn add(&mut self, glass: Glass) -> Result<bool, BookFull>
-        ensures held { IfOk result (λ added. IsTrue added ↔ (find_glass glass.name.items self.old ≡ None)) }
-        ensures new { IfOk result (λ added. self.new ≡ (if added then self.old ++ glass ∷ [] else self.old)) }
+        ensures held { IfOk result
+            (λ added. IsTrue added ↔ (find_glass glass.name.items self.old ≡ None)) }
+        ensures new { IfOk result
+            (λ added. self.new ≡ (if added then self.old ++ glass ∷ [] else self.old)) }
         ensures full { OnErr result (self.new ≡ self.old) }
     {
         let key = upper_name(&glass.name);

@@ -27,7 +27,8 @@ pub(crate) fn is_lost(word: &Word) -> bool
 /// Keeps the outcome of a greater scale as a row, unless it is lost and the row that is kept isn't.
 #[tactic(auto, unfolding(crate::specs::Climbs::kept_of))]
 pub(crate) fn keep(kept: &mut Option<Row>, scale: u32, word: Word, places: ArrayVec<Place, 64>)
-    ensures { kept.new ≡ Some (kept_of kept.old (record { scale = scale; word = word; places = places })) }
+    ensures { kept.new ≡ Some
+        (kept_of kept.old (record { scale = scale; word = word; places = places })) }
 {
     if let Some(old) = kept
         && is_lost(&word)

@@ -28,11 +28,14 @@ pub trait Disk {
 
         // Where it is told what is held, all bytes of the file are left to read, and a path that the
         // system doesn't find isn't held.
-        ensures opens { IfOk result (λ file. Opens (held self.now) path.now (Self.File.remaining file)) }
-        ensures lacks { IfErr result (λ error. error_kind error ≡ ErrorKind.NotFound → Lacks (held self.now) path.now) };
+        ensures opens { IfOk result
+            (λ file. Opens (held self.now) path.now (Self.File.remaining file)) }
+        ensures lacks { IfErr result
+            (λ error. error_kind error ≡ ErrorKind.NotFound → Lacks (held self.now) path.now) };
 
     /// Only names that are text are held.
-    ghost text_alone: { (disk : Self) (name : List ℕ) → (IsUtf8 name → ⊥) → Lacks (held disk) name };
+    ghost text_alone: { (disk : Self) (name : List ℕ) → (IsUtf8 name → ⊥)
+        → Lacks (held disk) name };
 }
 
 /// The files of the system. It tells nothing: that a path's bytes are those on the disk is trusted.

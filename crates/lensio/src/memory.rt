@@ -44,7 +44,13 @@ impl CalmShelf {
     /// Files with their names; of equal names the first is held. A read gives at most `piece` bytes.
     pub fn new(files: Vec<(Vec<u8>, Vec<u8>)>, piece: usize) -> CalmShelf
         requires { 1 ≤ piece }
-        ensures { result ≡ record { files = files_in files.items; piece = piece; left = []; absences = 0; given = 0 } }
+        ensures { result ≡ record {
+          files = files_in files.items;
+          piece = piece;
+          left = [];
+          absences = 0;
+          given = 0;
+        } }
     {
         CalmShelf {
             files,
@@ -197,7 +203,8 @@ impl Shelf for MemShelf {
 
     fn choose(&mut self, name: &[u8]) -> Result<bool, Failed>
         ensures fails { IsErr result ↔ Contains self.old.fails (next_call self.old.calls) }
-        ensures found { IfOk result (λ found. found ≡ is_some (first_named self.old.calm.files name.now)) }
+        ensures found { IfOk result
+            (λ found. found ≡ is_some (first_named self.old.calm.files name.now)) }
         ensures after { OnOk result (self.new ≡ record self.old {
           calm = after_choice self.old.calm name.now;
           calls = next_call self.old.calls;
@@ -223,7 +230,8 @@ impl Shelf for MemShelf {
         ensures piece { OnOk result (1 ≤ self.old.calm.piece) }
         ensures fails { IsErr result ↔ Contains self.old.fails (next_call self.old.calls) }
         ensures count { IfOk result (λ count. count ≡ read_len self.old.calm (length to.old)) }
-        ensures bytes { IfOk result (λ count. to.new ≡ take count self.old.calm.left ++ drop count to.old) }
+        ensures bytes { IfOk result
+            (λ count. to.new ≡ take count self.old.calm.left ++ drop count to.old) }
         ensures after { OnOk result (self.new ≡ record self.old {
           calm = after_read self.old.calm (length to.old);
           calls = next_call self.old.calls;
@@ -277,7 +285,8 @@ impl CalmSink {
     /// `room` bytes. It takes memory for the room here, and then no more.
     pub fn new(alloc: Global, room: usize, piece: usize) -> Result<CalmSink, SinkFull>
         requires { 1 ≤ piece }
-        ensures { IfOk result (λ sink. sink ≡ record { taken = Some []; room = room; piece = piece }) }
+        ensures { IfOk result
+            (λ sink. sink ≡ record { taken = Some []; room = room; piece = piece }) }
     {
         Ok(CalmSink {
             bytes: Vec::with_capacity(alloc, room).map_err(|_| SinkFull)?,
@@ -383,8 +392,10 @@ impl Sink for MemSink {
     fn write(&mut self, piece: &[u8]) -> Result<usize, Failed>
         requires { 0 < length piece.now }
         ensures fails { IsErr result ↔ Contains self.old.fails (next_call self.old.calls) }
-        ensures idle { IfOk result (λ count. (count ≡ 0) ↔ Contains self.old.idle (next_call self.old.calls)) }
-        ensures count { IfOk result (λ count. 0 < count → count ≡ min self.old.calm.piece (length piece.now)) }
+        ensures idle { IfOk result
+            (λ count. (count ≡ 0) ↔ Contains self.old.idle (next_call self.old.calls)) }
+        ensures count { IfOk result
+            (λ count. 0 < count → count ≡ min self.old.calm.piece (length piece.now)) }
         ensures after { IfOk result (λ count. 0 < count → self.new ≡ record self.old {
           calm = after_bytes self.old.calm (take count piece.now);
           calls = next_call self.old.calls;

@@ -8,7 +8,8 @@ use std::io::{Print, Printer, Write};
 /// A writer that tells the bytes that it holds at each time, or at none.
 pub trait Output: Write {
     /// What tells its bytes once tells them always.
-    ghost steady: { (before now : Self) → IsSome (Self.contents now) → IsSome (Self.contents before) };
+    ghost steady: { (before now : Self) → IsSome (Self.contents now)
+        → IsSome (Self.contents before) };
 }
 
 impl<P: Print> Output for Printer<'_, P> {

@@ -40,15 +40,18 @@ pub trait Shelf {
 
         // Each answer has its cause, and nothing else is counted.
         ensures failed { OnErr result (Rose (faults self.old) (faults self.new)) }
-        ensures absent { IfOk result (λ found. IsFalse found → Rose (absences self.old) (absences self.new)) }
+        ensures absent { IfOk result
+            (λ found. IsFalse found → Rose (absences self.old) (absences self.new)) }
         ensures calm { OnOk result (faults self.new ≡ faults self.old) }
-        ensures found { IfOk result (λ found. IsTrue found → absences self.new ≡ absences self.old) }
+        ensures found { IfOk result
+            (λ found. IsTrue found → absences self.new ≡ absences self.old) }
         ensures not_absent { OnErr result (absences self.new ≡ absences self.old) }
 
         // Where it is told what is held, false means that the name isn't held, and true that it is:
         // then all its bytes are left, and it is told that they are.
         ensures lacks { IfOk result (λ found. IsFalse found → Lacks (held self.old) name.now) }
-        ensures opens { IfOk result (λ found. IsTrue found → Opens (held self.old) name.now (left self.new)) }
+        ensures opens { IfOk result
+            (λ found. IsTrue found → Opens (held self.old) name.now (left self.new)) }
 
         // After false and after a failure no file is chosen.
         ensures none_chosen { IfOk result (λ found. IsFalse found → left self.new ≡ Some []) }
@@ -70,7 +73,8 @@ pub trait Shelf {
 
         // It takes from what is left just what it gives, and what was told stays told.
         ensures bound { IfOk result (λ count. count ≤ length to.old) }
-        ensures front { IfOk result (λ count. Consumes (left self.old) (left self.new) (take count to.new)) }
+        ensures front { IfOk result
+            (λ count. Consumes (left self.old) (left self.new) (take count to.new)) }
         ensures end { IfOk result (λ count. count ≡ 0 → IsAtEnd (left self.new)) }
         ensures kept { OnErr result (Keeps (left self.old) (left self.new)) }
 

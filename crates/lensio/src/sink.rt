@@ -20,7 +20,8 @@ pub trait Sink {
     fn write(&mut self, piece: &[u8]) -> Result<usize, Failed>
         requires { 0 < length piece.now }
         ensures bound { IfOk result (λ count. count ≤ length piece.now) }
-        ensures front { IfOk result (λ count. Takes (taken self.old) (taken self.new) (take count piece.now)) }
+        ensures front { IfOk result
+            (λ count. Takes (taken self.old) (taken self.new) (take count piece.now)) }
         ensures some_front { OnErr result (TakesFront (taken self.old) (taken self.new) piece.now) }
 
         // Each answer that stops has its cause, and nothing else is counted.

@@ -54,7 +54,14 @@ impl<D: Disk> Model for StdShelf<D> {
 impl<D: Disk> StdShelf<D> {
     /// The files of a disk, with none chosen and all counts at 0.
     pub fn new(disk: D) -> Self
-        ensures { result ≡ record { disk = disk; is_chosen = false; left = Some []; faults = 0; absences = 0; given = 0 } }
+        ensures { result ≡ record {
+          disk = disk;
+          is_chosen = false;
+          left = Some [];
+          faults = 0;
+          absences = 0;
+          given = 0;
+        } }
     {
         StdShelf {
             disk,
@@ -79,9 +86,13 @@ impl<D: Disk> Shelf for StdShelf<D> {
 
     fn choose(&mut self, name: &[u8]) -> Result<bool, Failed>
         ensures not_text { (IsUtf8 name.now → ⊥) → result ≡ Ok false }
-        ensures answer { IsUtf8 name.now → AnswersBy (D.may_answer self.old.disk name.now) D.File.remaining result self.new.left }
-        ensures opens { IfOk result (λ found. IsTrue found → Opens (D.held self.old.disk) name.now self.new.left) }
-        ensures lacks { IfOk result (λ found. IsFalse found → Lacks (D.held self.old.disk) name.now) }
+        ensures answer { IsUtf8 name.now
+            → AnswersBy (D.may_answer self.old.disk name.now) D.File.remaining result
+            self.new.left }
+        ensures opens { IfOk result
+            (λ found. IsTrue found → Opens (D.held self.old.disk) name.now self.new.left) }
+        ensures lacks { IfOk result
+            (λ found. IsFalse found → Lacks (D.held self.old.disk) name.now) }
         ensures none_chosen { IfOk result (λ found. IsFalse found → self.new.left ≡ Some []) }
         ensures after { IfOk result (λ found. self.new ≡ record self.old {
           is_chosen = found;
@@ -122,8 +133,11 @@ impl<D: Disk> Shelf for StdShelf<D> {
         ensures rest { ReadConsumes self.old.left self.new.left result to.new }
         ensures end { IfOk result (λ count. count ≡ 0 → 0 < length to.old → IsAtEnd self.new.left) }
         ensures none_chosen { IsFalse self.old.is_chosen → result ≡ Ok 0 }
-        ensures after { IfOk result (λ count. self.new ≡ record self.old { left = self.new.left; given = plus self.old.given count }) }
-        ensures after_failure { OnErr result (self.new ≡ record self.old { left = self.new.left; faults = plus self.old.faults 1 }) }
+        ensures after { IfOk result
+            (λ count. self.new ≡ record
+            self.old { left = self.new.left; given = plus self.old.given count }) }
+        ensures after_failure { OnErr result
+            (self.new ≡ record self.old { left = self.new.left; faults = plus self.old.faults 1 }) }
         ensures faults_rise { self.old.faults ≤ self.new.faults }
         ensures given_rises { self.old.given ≤ self.new.given }
     {
@@ -222,7 +236,8 @@ impl<W: Output> Sink for StdSink<W> {
         ensures wrote { WriteAppends self.old.taken self.new.taken result piece.now }
         ensures told { IsSome self.new.taken → IsSome self.old.taken }
         ensures after { IfOk result (λ count. 0 < count → self.new.faults ≡ self.old.faults) }
-        ensures after_idle { IfOk result (λ count. count ≡ 0 → self.new.faults ≡ plus self.old.faults 1) }
+        ensures after_idle { IfOk result
+            (λ count. count ≡ 0 → self.new.faults ≡ plus self.old.faults 1) }
         ensures after_failure { OnErr result (self.new.faults ≡ plus self.old.faults 1) }
         ensures faults_rise { self.old.faults ≤ self.new.faults }
     {

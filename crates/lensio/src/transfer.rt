@@ -57,19 +57,26 @@ pub fn slurp<F: Shelf>(alloc: Global, shelf: &mut F, name: &[u8]) -> Result<Vec<
     ensures end { OnOk result (IsAtEnd (F.left shelf.new)) }
 
     // Each refusal but want of memory has its cause.
-    ensures absent { IsErrOf result SlurpFault.Absent → Rose (F.absences shelf.old) (F.absences shelf.new) }
+    ensures absent { IsErrOf result SlurpFault.Absent
+        → Rose (F.absences shelf.old) (F.absences shelf.new) }
     ensures lacks { IsErrOf result SlurpFault.Absent → Lacks (F.held shelf.old) name.now }
-    ensures fault { IsErrOf result SlurpFault.Fault → Rose (F.faults shelf.old) (F.faults shelf.new) }
-    ensures too_long { IsErrOf result SlurpFault.TooLong → HoldsMore (F.held shelf.old) name.now FILE_LIMIT }
+    ensures fault { IsErrOf result SlurpFault.Fault
+        → Rose (F.faults shelf.old) (F.faults shelf.new) }
+    ensures too_long { IsErrOf result SlurpFault.TooLong
+        → HoldsMore (F.held shelf.old) name.now FILE_LIMIT }
 
     // Nothing else is counted.
     ensures calm { ¬ IsErrOf result SlurpFault.Fault → F.faults shelf.new ≡ F.faults shelf.old }
-    ensures found { ¬ IsErrOf result SlurpFault.Absent → F.absences shelf.new ≡ F.absences shelf.old }
+    ensures found { ¬ IsErrOf result SlurpFault.Absent
+        → F.absences shelf.new ≡ F.absences shelf.old }
 
     // How many bytes were given: those of the file; or one past the limit, at TooLong and there alone.
-    ensures given { IfOk result (λ bytes. F.given shelf.new ≡ plus (F.given shelf.old) (vec_len bytes)) }
-    ensures given_too_long { IsErrOf result SlurpFault.TooLong → F.given shelf.new ≡ plus (F.given shelf.old) (FILE_LIMIT + 1) }
-    ensures too_long_where { F.given shelf.old + FILE_LIMIT < F.given shelf.new → IsErrOf result SlurpFault.TooLong }
+    ensures given { IfOk result
+        (λ bytes. F.given shelf.new ≡ plus (F.given shelf.old) (vec_len bytes)) }
+    ensures given_too_long { IsErrOf result SlurpFault.TooLong
+        → F.given shelf.new ≡ plus (F.given shelf.old) (FILE_LIMIT + 1) }
+    ensures too_long_where { F.given shelf.old + FILE_LIMIT < F.given shelf.new
+        → IsErrOf result SlurpFault.TooLong }
     ensures none_given { IsErrOf result SlurpFault.Absent → F.given shelf.new ≡ F.given shelf.old }
 
     ensures same_held { F.held shelf.new ≡ F.held shelf.old }
@@ -86,19 +93,25 @@ pub fn slurp<F: Shelf>(alloc: Global, shelf: &mut F, name: &[u8]) -> Result<Vec<
 // All that is left of the chosen file.
 fn read_rest<F: Shelf>(alloc: Global, shelf: &mut F) -> Result<Vec<u8>, SlurpFault>
     ensures same_asked { F.asked shelf.new ≡ F.asked shelf.old }
-    ensures bytes { IfOk result (λ bytes. Consumes (F.left shelf.old) (F.left shelf.new) bytes.items) }
+    ensures bytes { IfOk result
+        (λ bytes. Consumes (F.left shelf.old) (F.left shelf.new) bytes.items) }
     ensures within { IfOk result (λ bytes. vec_len bytes ≤ FILE_LIMIT) }
     ensures end { OnOk result (IsAtEnd (F.left shelf.new)) }
 
     ensures absent { IsErrOf result SlurpFault.Absent → ⊥ }
-    ensures fault { IsErrOf result SlurpFault.Fault → Rose (F.faults shelf.old) (F.faults shelf.new) }
-    ensures too_long { IsErrOf result SlurpFault.TooLong → IfSome (F.left shelf.old) (λ bytes. FILE_LIMIT < length bytes) }
+    ensures fault { IsErrOf result SlurpFault.Fault
+        → Rose (F.faults shelf.old) (F.faults shelf.new) }
+    ensures too_long { IsErrOf result SlurpFault.TooLong
+        → IfSome (F.left shelf.old) (λ bytes. FILE_LIMIT < length bytes) }
 
     ensures calm { ¬ IsErrOf result SlurpFault.Fault → F.faults shelf.new ≡ F.faults shelf.old }
 
-    ensures given { IfOk result (λ bytes. F.given shelf.new ≡ plus (F.given shelf.old) (vec_len bytes)) }
-    ensures given_too_long { IsErrOf result SlurpFault.TooLong → F.given shelf.new ≡ plus (F.given shelf.old) (FILE_LIMIT + 1) }
-    ensures too_long_where { F.given shelf.old + FILE_LIMIT < F.given shelf.new → IsErrOf result SlurpFault.TooLong }
+    ensures given { IfOk result
+        (λ bytes. F.given shelf.new ≡ plus (F.given shelf.old) (vec_len bytes)) }
+    ensures given_too_long { IsErrOf result SlurpFault.TooLong
+        → F.given shelf.new ≡ plus (F.given shelf.old) (FILE_LIMIT + 1) }
+    ensures too_long_where { F.given shelf.old + FILE_LIMIT < F.given shelf.new
+        → IsErrOf result SlurpFault.TooLong }
 
     ensures same_held { F.held shelf.new ≡ F.held shelf.old }
     ensures faults_rise { F.faults shelf.old ≤ F.faults shelf.new }

@@ -96,40 +96,22 @@ pub enum CertFault {
     Text(TextFault),
     /// Other words, or another count of them.
     #[error("line {line}: word")]
-    Word {
-        /// The line.
-        line: u32,
-    },
+    Word { line: u32 },
     /// A word is no number of the form that its place needs.
     #[error("line {line}: bad number")]
-    BadNumber {
-        /// The line.
-        line: u32,
-    },
+    BadNumber { line: u32 },
     /// The ray is not above the one before, or not one of the job.
     #[error("line {line}: no ray")]
-    NoRay {
-        /// The line.
-        line: u32,
-    },
+    NoRay { line: u32 },
     /// A least end is above its greatest.
     #[error("line {line}: order")]
-    Order {
-        /// The line.
-        line: u32,
-    },
+    Order { line: u32 },
     /// An end passes the greatest number that is kept.
     #[error("line {line}: range")]
-    Range {
-        /// The line.
-        line: u32,
-    },
+    Range { line: u32 },
     /// A line stands where another is due.
     #[error("line {line}: place")]
-    Place {
-        /// The line.
-        line: u32,
-    },
+    Place { line: u32 },
     /// There was no memory.
     #[error("out of memory")]
     Memory,

@@ -11,16 +11,10 @@ pub enum TextFault {
     OddByte,
     /// A surrogate unit without its partner.
     #[error("line {line}: lone surrogate")]
-    Surrogate {
-        /// The line.
-        line: u32,
-    },
+    Surrogate { line: u32 },
     /// More than 4,096 units before the end of the line.
     #[error("line {line}: too long")]
-    LongLine {
-        /// The line.
-        line: u32,
-    },
+    LongLine { line: u32 },
     /// There was no memory.
     #[error("out of memory")]
     Memory,
@@ -34,54 +28,28 @@ pub enum ZmxFault {
     Text(TextFault),
     /// The mode is NSC.
     #[error("line {line}: not sequential")]
-    NotSequential {
-        /// The line.
-        line: u32,
-    },
+    NotSequential { line: u32 },
     /// The number of a SURF line is not the count of surfaces so far.
     #[error("line {line}: surface out of order")]
-    SurfaceOrder {
-        /// The line.
-        line: u32,
-    },
+    SurfaceOrder { line: u32 },
     /// The 65th surface.
     #[error("line {line}: too many surfaces")]
-    TooManySurfaces {
-        /// The line.
-        line: u32,
-    },
+    TooManySurfaces { line: u32 },
     /// A type other than STANDARD and EVENASPH.
     #[error("line {line}: surface type")]
-    SurfaceType {
-        /// The line.
-        line: u32,
-    },
+    SurfaceType { line: u32 },
     /// A word that the record needs is missing.
     #[error("line {line}: missing word")]
-    MissingWord {
-        /// The line.
-        line: u32,
-    },
+    MissingWord { line: u32 },
     /// A word is no number of the form that its place needs.
     #[error("line {line} word {word}: bad number")]
-    BadNumber {
-        /// The line.
-        line: u32,
-        /// The word.
-        word: u32,
-    },
+    BadNumber { line: u32, word: u32 },
     /// A glass name of more than 40 units.
     #[error("line {line}: long name")]
-    LongName {
-        /// The line.
-        line: u32,
-    },
+    LongName { line: u32 },
     /// A model glass.
     #[error("line {line}: model glass")]
-    ModelGlass {
-        /// The line.
-        line: u32,
-    },
+    ModelGlass { line: u32 },
     /// Fewer than 3 surfaces.
     #[error("too few surfaces")]
     TooFewSurfaces,
@@ -93,24 +61,13 @@ pub enum ZmxFault {
     MirrorAtObject,
     /// An infinite thickness between surface 1 and the image.
     #[error("surface {surface}: infinite thickness")]
-    InnerInfinity {
-        /// The surface.
-        surface: u32,
-    },
+    InnerInfinity { surface: u32 },
     /// An even asphere whose semi-diameter gives no zone.
     #[error("surface {surface}: no zone")]
-    NoZone {
-        /// The surface.
-        surface: u32,
-    },
+    NoZone { surface: u32 },
     /// A normalised coefficient above 10^9 in size.
     #[error("surface {surface}: coefficient {i}")]
-    Coefficient {
-        /// The surface.
-        surface: u32,
-        /// The number of the coefficient.
-        i: u32,
-    },
+    Coefficient { surface: u32, i: u32 },
     /// There was no memory.
     #[error("out of memory")]
     Memory,
@@ -124,36 +81,19 @@ pub enum AgfFault {
     Text(TextFault),
     /// A CD or LD record before the first NM record.
     #[error("line {line}: orphan record")]
-    OrphanRecord {
-        /// The line.
-        line: u32,
-    },
+    OrphanRecord { line: u32 },
     /// A word that the record needs is missing.
     #[error("line {line}: missing word")]
-    MissingWord {
-        /// The line.
-        line: u32,
-    },
+    MissingWord { line: u32 },
     /// A word is no number of the form that its place needs.
     #[error("line {line} word {word}: bad number")]
-    BadNumber {
-        /// The line.
-        line: u32,
-        /// The word.
-        word: u32,
-    },
+    BadNumber { line: u32, word: u32 },
     /// A glass name of more than 40 units.
     #[error("line {line}: long name")]
-    LongName {
-        /// The line.
-        line: u32,
-    },
+    LongName { line: u32 },
     /// The 4,097th NM record.
     #[error("line {line}: too many glasses")]
-    TooManyGlasses {
-        /// The line.
-        line: u32,
-    },
+    TooManyGlasses { line: u32 },
     /// There was no memory.
     #[error("out of memory")]
     Memory,
@@ -167,28 +107,16 @@ pub enum JobFault {
     Text(TextFault),
     /// An unknown first word, a wrong count of words, or a second WAVE, RES or WIDTH.
     #[error("line {line}: word")]
-    Word {
-        /// The line.
-        line: u32,
-    },
+    Word { line: u32 },
     /// A word is no number of the form that its place needs.
     #[error("line {line}: bad number")]
-    BadNumber {
-        /// The line.
-        line: u32,
-    },
+    BadNumber { line: u32 },
     /// AIM, FAN or SPOT before any PUPIL.
     #[error("line {line}: no pupil")]
-    Missing {
-        /// The line.
-        line: u32,
-    },
+    Missing { line: u32 },
     /// A number leaves its range.
     #[error("line {line}: range")]
-    Range {
-        /// The line.
-        line: u32,
-    },
+    Range { line: u32 },
     /// More than 10,000 rays in all.
     #[error("too many rays")]
     TooManyRays,
@@ -205,40 +133,22 @@ pub enum TolFault {
     Text(TextFault),
     /// Other words, or another count of them.
     #[error("line {line}: word")]
-    Word {
-        /// The line.
-        line: u32,
-    },
+    Word { line: u32 },
     /// A word is no number of the form that its place needs.
     #[error("line {line}: bad number")]
-    BadNumber {
-        /// The line.
-        line: u32,
-    },
+    BadNumber { line: u32 },
     /// A deviation below 0.
     #[error("line {line}: negative")]
-    Negative {
-        /// The line.
-        line: u32,
-    },
+    Negative { line: u32 },
     /// The lens has no such surface for this kind.
     #[error("line {line}: no surface")]
-    NoSurface {
-        /// The line.
-        line: u32,
-    },
+    NoSurface { line: u32 },
     /// The same kind and surface stood before.
     #[error("line {line}: twice")]
-    Twice {
-        /// The line.
-        line: u32,
-    },
+    Twice { line: u32 },
     /// The 33rd tolerance.
     #[error("line {line}: too many")]
-    TooMany {
-        /// The line.
-        line: u32,
-    },
+    TooMany { line: u32 },
     /// There was no memory.
     #[error("out of memory")]
     Memory,
@@ -249,35 +159,20 @@ pub enum TolFault {
 pub enum CrossFault {
     /// The catalogue has no glass of this name.
     #[error("surface {surface}: no glass")]
-    NoGlass {
-        /// The surface.
-        surface: u32,
-    },
+    NoGlass { surface: u32 },
     /// The glass has a formula other than 1 and 2.
     #[error("surface {surface}: formula")]
-    Formula {
-        /// The surface.
-        surface: u32,
-    },
+    Formula { surface: u32 },
     /// Neither the job nor the lens gives a wavelength.
     #[error("no wavelength")]
     NoWave,
     /// The wavelength is outside the range of the glass.
     #[error("surface {surface}: wavelength range")]
-    WaveRange {
-        /// The surface.
-        surface: u32,
-    },
+    WaveRange { surface: u32 },
     /// The index at scale 12 is not enclosed between 1 and 5.
     #[error("surface {surface}: bad index")]
-    BadIndex {
-        /// The surface.
-        surface: u32,
-    },
+    BadIndex { surface: u32 },
     /// A tolerance on index stands on a mirror.
     #[error("surface {surface}: index of a mirror")]
-    MirrorIndex {
-        /// The surface.
-        surface: u32,
-    },
+    MirrorIndex { surface: u32 },
 }

@@ -10,70 +10,70 @@ use std::marker::Model;
 pub enum Ask {
     /// One ray from the vertex plane of surface 1.
     Ray {
-        /// The height in x.
+        /// The height in x, in lens units.
         x: Dec,
-        /// The height in y.
+        /// The height in y, in lens units.
         y: Dec,
-        /// The slope in x.
+        /// The slope in x, `dx/dz`.
         p: Dec,
-        /// The slope in y.
+        /// The slope in y, `dy/dz`.
         q: Dec,
     },
     /// One ray of a parallel beam, by its pupil coordinates.
     Aim {
-        /// The slope in x.
+        /// The slope in x, `dx/dz`.
         p: Dec,
-        /// The slope in y.
+        /// The slope in y, `dy/dz`.
         q: Dec,
-        /// The pupil coordinate in x.
+        /// The pupil coordinate in x, in radii of the pupil.
         px: Dec,
-        /// The pupil coordinate in y.
+        /// The pupil coordinate in y, in radii of the pupil.
         py: Dec,
-        /// The place of the pupil plane, from vertex 1.
+        /// The place of the pupil plane, from vertex 1, in lens units.
         z: Dec,
-        /// The radius of the pupil.
+        /// The radius of the pupil, in lens units.
         r: Dec,
     },
     /// A fan of rays along each pupil axis, `2 n + 1` on each.
     Fan {
-        /// The slope in x.
+        /// The slope in x, `dx/dz`.
         p: Dec,
-        /// The slope in y.
+        /// The slope in y, `dy/dz`.
         q: Dec,
         /// The number of rays on each side, from 1 to 1000.
         n: u32,
-        /// The place of the pupil plane, from vertex 1.
+        /// The place of the pupil plane, from vertex 1, in lens units.
         z: Dec,
-        /// The radius of the pupil.
+        /// The radius of the pupil, in lens units.
         r: Dec,
     },
     /// A square grid of `(2 n + 1)^2` rays over the pupil.
     Spot {
-        /// The slope in x.
+        /// The slope in x, `dx/dz`.
         p: Dec,
-        /// The slope in y.
+        /// The slope in y, `dy/dz`.
         q: Dec,
         /// The number of rays on each side, from 1 to 60.
         n: u32,
-        /// The place of the pupil plane, from vertex 1.
+        /// The place of the pupil plane, from vertex 1, in lens units.
         z: Dec,
-        /// The radius of the pupil.
+        /// The radius of the pupil, in lens units.
         r: Dec,
     },
     /// One paraxial ray.
     First {
-        /// The height.
+        /// The height at the vertex plane of surface 1, in lens units.
         y: Dec,
-        /// The slope.
+        /// The slope there, `dy/dz`.
         u: Dec,
     },
     /// A marginal and a chief paraxial ray.
     Seidel {
-        /// The height of the marginal ray.
+        /// The height of the marginal ray, in lens units.
         y: Dec,
         /// The slope of the marginal ray.
         u: Dec,
-        /// The height of the chief ray.
+        /// The height of the chief ray, in lens units.
         yb: Dec,
         /// The slope of the chief ray.
         ub: Dec,

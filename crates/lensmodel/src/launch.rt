@@ -30,28 +30,28 @@ impl Model for Ratio {
 pub enum Launch {
     /// A ray by its point.
     Plain {
-        /// The height in x.
+        /// The height in x, in lens units.
         x: Dec,
-        /// The height in y.
+        /// The height in y, in lens units.
         y: Dec,
-        /// The slope in x.
+        /// The slope in x, `dx/dz`.
         p: Dec,
-        /// The slope in y.
+        /// The slope in y, `dy/dz`.
         q: Dec,
     },
     /// A ray by its point in the pupil plane: `x = r px - p z`, `y = r py - q z`.
     Pupil {
-        /// The slope in x.
+        /// The slope in x, `dx/dz`.
         p: Dec,
-        /// The slope in y.
+        /// The slope in y, `dy/dz`.
         q: Dec,
-        /// The pupil coordinate in x.
+        /// The pupil coordinate in x, in radii of the pupil.
         px: Ratio,
-        /// The pupil coordinate in y.
+        /// The pupil coordinate in y, in radii of the pupil.
         py: Ratio,
-        /// The place of the pupil plane, from vertex 1.
+        /// The place of the pupil plane, from vertex 1, in lens units.
         z: Dec,
-        /// The radius of the pupil, at least 0.
+        /// The radius of the pupil, at least 0, in lens units.
         r: Dec,
     },
 }

@@ -36,10 +36,10 @@ pub struct Heading {
     pub n: Span,
 }
 
-/// Where a ray meets a surface, from the surface's vertex.
+/// Where a ray meets a surface, from the surface's vertex, in lens units at the row's scale.
 #[derive(Clone, Copy, Debug, PartialEq, Eq, Default)]
 pub struct Place {
-    /// The square of the distance from the axis.
+    /// The square of the distance from the axis, in squared lens units.
     pub rho: Span,
     /// The height in x.
     pub x: Span,
@@ -58,9 +58,9 @@ pub struct Place {
 pub struct Row {
     /// The scale: 6, 9, 12 or 15.
     pub scale: u32,
-    /// The word.
+    /// What is said of every chain.
     pub word: Word,
-    /// The places.
+    /// The places, from surface 1 on.
     pub places: ArrayVec<Place, 64>,
 }
 

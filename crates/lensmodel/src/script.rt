@@ -38,52 +38,28 @@ pub enum ScriptFault {
     Text(TextFault),
     /// An unknown first word, or another count of words.
     #[error("line {line}: word")]
-    Word {
-        /// The line.
-        line: u32,
-    },
+    Word { line: u32 },
     /// A word is no number of the form that its place needs.
     #[error("line {line}: bad number")]
-    BadNumber {
-        /// The line.
-        line: u32,
-    },
+    BadNumber { line: u32 },
     /// The surface is outside the range of its line.
     #[error("line {line}: no surface")]
-    NoSurface {
-        /// The line.
-        line: u32,
-    },
+    NoSurface { line: u32 },
     /// The surface has not the kind that the line needs, or the coefficient no number from 1 to 8.
     #[error("line {line}: kind")]
-    Kind {
-        /// The line.
-        line: u32,
-    },
+    Kind { line: u32 },
     /// A rim below 0.
     #[error("line {line}: negative")]
-    Negative {
-        /// The line.
-        line: u32,
-    },
+    Negative { line: u32 },
     /// A normalised coefficient above 10^9 in size.
     #[error("line {line}: coefficient")]
-    Coefficient {
-        /// The line.
-        line: u32,
-    },
+    Coefficient { line: u32 },
     /// No change is left to take back.
     #[error("line {line}: no undo")]
-    NoUndo {
-        /// The line.
-        line: u32,
-    },
+    NoUndo { line: u32 },
     /// The 1,001st act.
     #[error("line {line}: too many")]
-    TooMany {
-        /// The line.
-        line: u32,
-    },
+    TooMany { line: u32 },
     /// There was no memory.
     #[error("out of memory")]
     Memory,

@@ -22,7 +22,7 @@ pub enum TolKind {
 pub struct Tol {
     /// Which value.
     pub kind: TolKind,
-    /// The surface.
+    /// The number of the surface, the object being 0.
     pub surface: u32,
     /// The greatest deviation, at least 0.
     pub delta: Dec,

@@ -77,15 +77,27 @@ pub fn answer<F: Shelf, K: Sink, L: Ledger>(
     requires some { 0 < L.parts }
 
     // The code stands for the status that is due, and the text that is due was written.
-    ensures outcome { Ends result (λ status. IsDecided status → OfFiles (F.held shelf.old) (IsDue (said_in arguments) status (K.taken out.old) (K.taken out.new))) }
-    ensures asks { TakesFront (F.asked shelf.old) (F.asked shelf.new) (names_of (command_of (said_in arguments))) }
+    ensures outcome { Ends result
+        (λ status. IsDecided status
+        → OfFiles (F.held shelf.old)
+        (IsDue (said_in arguments) status (K.taken out.old) (K.taken out.new))) }
+    ensures asks { TakesFront (F.asked shelf.old) (F.asked shelf.new)
+        (names_of (command_of (said_in arguments))) }
 
     // The codes that the outside decides.
-    ensures absent { Ends result (λ status. status ≡ Status.Absent → Rose (F.absences shelf.old) (F.absences shelf.new)) }
-    ensures read_fault { Ends result (λ status. status ≡ Status.ReadFault → Rose (F.faults shelf.old) (F.faults shelf.new)) }
-    ensures too_long { Ends result (λ status. status ≡ Status.TooLong → RoseBy (FILE_LIMIT + 1) (F.given shelf.old) (F.given shelf.new)) }
-    ensures write_fault { Ends result (λ status. status ≡ Status.WriteFault → Rose (K.faults out.old) (K.faults out.new)) }
-    ensures silent { Ends result (λ status. status ≡ Status.Memory → WritesWanting (F.held shelf.old) (said_in arguments) (K.taken out.old) (K.taken out.new)) }
+    ensures absent { Ends result
+        (λ status. status ≡ Status.Absent → Rose (F.absences shelf.old) (F.absences shelf.new)) }
+    ensures read_fault { Ends result
+        (λ status. status ≡ Status.ReadFault → Rose (F.faults shelf.old) (F.faults shelf.new)) }
+    ensures too_long { Ends result
+        (λ status. status ≡ Status.TooLong
+        → RoseBy (FILE_LIMIT + 1) (F.given shelf.old) (F.given shelf.new)) }
+    ensures write_fault { Ends result
+        (λ status. status ≡ Status.WriteFault → Rose (K.faults out.old) (K.faults out.new)) }
+    ensures silent { Ends result
+        (λ status. status ≡ Status.Memory
+        → WritesWanting (F.held shelf.old) (said_in arguments) (K.taken out.old)
+        (K.taken out.new)) }
     ensures complete { Ends result (λ status.
         ¬ Rose (F.absences shelf.old) (F.absences shelf.new) → ¬ Rose (F.faults shelf.old) (F.faults shelf.new) → ¬ Rose (K.faults out.old) (K.faults out.new)
         → IsComplete (F.held shelf.old) (said_in arguments) status) }

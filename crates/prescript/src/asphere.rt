@@ -72,7 +72,8 @@ pub fn scaled(s: &Surface, i: u32) -> Dec
     requires high { i ≤ 8 }
     requires exponent { IsReadable (zones.coefficient s.now i).exp }
     ensures value { result ≡ zones.scaled_coefficient s.now i }
-    ensures exact { value result ≈ value (zones.coefficient s.now i) *Q ten_power (zones.norm_of s.now *ℤ pos i) }
+    ensures exact { value result ≈ value (zones.coefficient s.now i)
+        *Q ten_power (zones.norm_of s.now *ℤ pos i) }
 {
     shifted(&written(s, i), norm(s) * i as i32)
 }

@@ -162,7 +162,8 @@ fn push_rest(s: &Surface, out: &mut Line)
 pub fn line(lens: &Prescription, j: u32, out: &mut ArrayString<1024>)
     requires surface { j < length lens.now.surfaces.items }
     requires empty { out.old.bytes ≡ [] }
-    ensures { out.new.bytes ≡ texts.surface_line j (slice_index_or lens.now.surfaces.items j plane) }
+    ensures { out.new.bytes
+        ≡ texts.surface_line j (slice_index_or lens.now.surfaces.items j plane) }
 {
     let s = &lens.surfaces.as_slice()[j as usize];
     push_shape(s, j, out);

@@ -20,7 +20,8 @@ fn bent<T: Arith>(f: &Face<T>, r: &Ray<T>, h: &Hit<T>, normal: &Normal<T>, e: i1
     requires scale { T.SCALE ≤ 15 }
     requires low { pos 0 ≤ℤ e }
     requires high { InCap e }
-    ensures { result ≡ rows.bend_by T.ops T.SCALE f.now.mirror f.now.n2 f.now r.now h.now normal.now e }
+    ensures { result ≡ rows.bend_by T.ops T.SCALE f.now.mirror f.now.n2 f.now r.now h.now
+        normal.now e }
 {
     if f.mirror() {
         return reflection(f, r, h, normal, e);

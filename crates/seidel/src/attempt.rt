@@ -35,7 +35,8 @@ fn surfaces_of<const S: u32>(
     requires scale { S ≤ 15 }
     requires marginal { length marginal.now + 1 ≡ image s.now }
     requires chief { length chief.now + 1 ≡ image s.now }
-    ensures { result.items ≡ map in_short (rows.contributions (operations S) S s.now (units_of_residual S s.now.res) 0
+    ensures { result.items
+        ≡ map in_short (rows.contributions (operations S) S s.now (units_of_residual S s.now.res) 0
         marginal.now chief.now) }
 {
     let e = residual_units(S, s.res);
@@ -66,7 +67,8 @@ pub(crate) fn of_rays<const S: u32>(s: &Setup, marginal: &Track<S>, chief: &Trac
     requires chief { length chief.now + 1 ≡ image s.now }
     ensures out { result.out ≡ (short_attempt (operations S) S s.now (units_of_residual S s.now.res)
         marginal.now chief.now).out }
-    ensures by_range { result.by_range ≡ (short_attempt (operations S) S s.now (units_of_residual S s.now.res)
+    ensures by_range { result.by_range
+        ≡ (short_attempt (operations S) S s.now (units_of_residual S s.now.res)
         marginal.now chief.now).by_range }
 {
     let surfaces = surfaces_of(s, marginal, chief);

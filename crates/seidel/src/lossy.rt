@@ -31,7 +31,8 @@ pub(crate) fn invariant_of<T: Arith>(
     u: Worked<T>,
 ) -> Worked<T>
     requires { T.SCALE ≤ 15 }
-    ensures { worked result ≡ surfaces.invariant_of T.ops T.SCALE row (worked n) (worked y) (worked cv) (worked u) }
+    ensures { worked result
+        ≡ surfaces.invariant_of T.ops T.SCALE row (worked n) (worked y) (worked cv) (worked u) }
 {
     let answer = invariant_if(n.step(), y.step(), cv.step(), u.step());
     n.earlier(y).earlier(cv).earlier(u).needed(row, answer)
@@ -54,7 +55,8 @@ pub(crate) fn lagrange_of<T: Arith>(
     yb: Worked<T>,
 ) -> Worked<T>
     requires { T.SCALE ≤ 15 }
-    ensures { worked result ≡ surfaces.lagrange_of T.ops T.SCALE row (worked ab) (worked y) (worked a) (worked yb) }
+    ensures { worked result
+        ≡ surfaces.lagrange_of T.ops T.SCALE row (worked ab) (worked y) (worked a) (worked yb) }
 {
     let answer = lagrange_if(ab.step(), y.step(), a.step(), yb.step());
     ab.earlier(y).earlier(a).earlier(yb).needed(row, answer)
@@ -76,7 +78,8 @@ pub(crate) fn petzval_of<T: Arith>(
     n2: Worked<T>,
 ) -> Worked<T>
     requires { T.SCALE ≤ 15 }
-    ensures { worked result ≡ surfaces.petzval_of T.ops T.SCALE row (worked cv) (worked n) (worked n2) }
+    ensures { worked result
+        ≡ surfaces.petzval_of T.ops T.SCALE row (worked cv) (worked n) (worked n2) }
 {
     let answer = petzval_if(cv.step(), n.step(), n2.step());
     cv.earlier(n).earlier(n2).needed(row, answer)
@@ -140,7 +143,8 @@ pub(crate) fn asphericity_of<T: Arith>(
     n2: Worked<T>,
 ) -> Worked<T>
     requires { T.SCALE ≤ 15 }
-    ensures { worked result ≡ surfaces.asphericity_of T.ops T.SCALE row f.now (worked cv) (worked n) (worked n2) }
+    ensures { worked result
+        ≡ surfaces.asphericity_of T.ops T.SCALE row f.now (worked cv) (worked n) (worked n2) }
 {
     let answer = asphericity_if(f, cv.step(), n.step(), n2.step());
     cv.earlier(n).earlier(n2).needed(row, answer)

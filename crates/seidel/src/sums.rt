@@ -18,9 +18,11 @@ use lensmodel::setup::Setup;
 fn attempt<const S: u32>(s: &Setup, y: &Dec, u: &Dec, yb: &Dec, ub: &Dec) -> Attempt
     requires scale { S ≤ 15 }
     requires well { IsWellFormed s.now }
-    ensures out { result.out ≡ (rows.sums_attempt (operations S) S s.now (units_of_residual S s.now.res)
+    ensures out { result.out
+        ≡ (rows.sums_attempt (operations S) S s.now (units_of_residual S s.now.res)
         y.now u.now yb.now ub.now).out }
-    ensures by_range { result.by_range ≡ (rows.sums_attempt (operations S) S s.now (units_of_residual S s.now.res)
+    ensures by_range { result.by_range
+        ≡ (rows.sums_attempt (operations S) S s.now (units_of_residual S s.now.res)
         y.now u.now yb.now ub.now).by_range }
     ensures encloses { EnclosesSeidel s.now y.now u.now yb.now ub.now result.out }
 {

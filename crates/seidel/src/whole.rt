@@ -34,7 +34,8 @@ pub(crate) fn contributions<const S: u32>(
     requires few { length marginal.now ≤ 64 }
     requires low { pos 0 ≤ℤ e }
     requires high { InCap e }
-    ensures { result.items ≡ map in_short (rows.contributions (operations S) S s.now e 0 marginal.now chief.now) }
+    ensures { result.items
+        ≡ map in_short (rows.contributions (operations S) S s.now e 0 marginal.now chief.now) }
 {
     let mut all: ArrayVec<Summed<Iv<S>>, 64> = ArrayVec::new();
     for j in 0..marginal.len() {

@@ -14,7 +14,12 @@ use sagform::ray::{Dir, Hit};
 /// The heading of a direction.
 pub(crate) fn heading_of<T: Arith>(d: &Dir<T>) -> Heading
     requires { T.SCALE ≤ 15 }
-    ensures { result ≡ record { l = T.ops.hull d.now.l; m = T.ops.hull d.now.m; n = T.ops.hull d.now.n } }
+    ensures { result ≡ record {
+      l = T.ops.hull d.now.l;
+      m = T.ops.hull d.now.m;
+      n = T.ops.hull
+          d.now.n;
+    } }
 {
     Heading {
         l: d.l.hull(),
@@ -46,7 +51,8 @@ pub(crate) fn is_clipped(rho: Span, rim2: &Option<Span>) -> bool
 
 /// The word of the rims up to surface `j`, from the word of those before it.
 fn noted(rims: Word, j: u32, rho: Span, rim2: Option<Span>) -> Word
-    ensures { (place : Place) → place.rho ≡ rho → result ≡ words.noted rims j (record { place = place; rim2 = rim2 }) }
+    ensures { (place : Place) → place.rho ≡ rho
+        → result ≡ words.noted rims j (record { place = place; rim2 = rim2 }) }
 {
     match (rims, rim2) {
         (Word::Passes, Some(rim2)) if rim2.lo < rho.hi => Word::Undecided(j, rho, rim2),
@@ -74,8 +80,11 @@ pub(crate) fn add<T: Arith>(
 )
     requires scale { T.SCALE ≤ 15 }
     requires room { length row.old.places.items < 64 }
-    ensures word { row.new.word ≡ words.noted row.old.word j (record { place = turns.place_with T.ops.hull h.now heading; rim2 = rim2 }) }
-    ensures places { row.new.places.items ≡ row.old.places.items ++ turns.place_with T.ops.hull h.now heading ∷ [] }
+    ensures word { row.new.word
+        ≡ words.noted row.old.word j
+        (record { place = turns.place_with T.ops.hull h.now heading; rim2 = rim2 }) }
+    ensures places { row.new.places.items ≡ row.old.places.items
+        ++ turns.place_with T.ops.hull h.now heading ∷ [] }
 {
     let rho = h.rho.hull();
     row.word = noted(row.word, j, rho, rim2);

@@ -72,7 +72,8 @@ fn walk<T: Arith>(s: &Setup, faces: &[Ready<T>], start: Ray<T>, row: &mut Row)
     requires well { IsWellFormed s.now }
     requires filled { map step_of faces.now ≡ filled.all_faces T.ops T.SCALE s.now }
     ensures word { row.new.word ≡ (goings.outcome_first T.ops T.SCALE T.member s.now start).word }
-    ensures places { row.new.places.items ≡ (goings.outcome_first T.ops T.SCALE T.member s.now start).places }
+    ensures places { row.new.places.items
+        ≡ (goings.outcome_first T.ops T.SCALE T.member s.now start).places }
     ensures sure { IsSureFrom T.ops T.SCALE T.member s.now 1 start }
 {
     empty(Word::Passes, row);
@@ -111,7 +112,8 @@ impl<T: Arith> Prepared<T> {
         requires room { 64 ≤ self.old.spare + length self.old.list }
         ensures list { self.new.list ≡ filled.all_faces T.ops T.SCALE s.now }
         ensures ticks { steps.new ≡ steps.old + values.image s.now }
-        ensures room { self.new.spare + length self.new.list ≡ self.old.spare + length self.old.list }
+        ensures room { self.new.spare + length self.new.list ≡ self.old.spare
+            + length self.old.list }
     {
         self.faces.clear();
         prepare(s, &mut self.faces, steps);
@@ -123,9 +125,11 @@ impl<T: Arith> Prepared<T> {
         requires scale { T.SCALE ≤ 15 }
         requires well { IsWellFormed s.now }
         requires filled { self.now.list ≡ filled.all_faces T.ops T.SCALE s.now }
-        ensures exact { let out = outcome_at T.ops T.SCALE s.now q.now in result ≡ (out.word, record { items = out.places }) }
+        ensures exact { let out = outcome_at T.ops T.SCALE s.now q.now in result
+            ≡ (out.word, record { items = out.places }) }
         // Every chain lies in the places, and the word holds of every chain.
-        ensures encloses { RowHolds s.now q.now (record { scale = T.SCALE; word = result.0; places = result.1 }) }
+        ensures encloses { RowHolds s.now q.now
+            (record { scale = T.SCALE; word = result.0; places = result.1 }) }
     {
         let mut row = blank();
         self.outcome(s, q, &mut row);
@@ -153,7 +157,8 @@ impl<T: Arith> Prepared<T> {
         requires filled { self.now.list ≡ filled.all_faces T.ops T.SCALE s.now }
         ensures word { row.new.word ≡ (outcome_at T.ops T.SCALE s.now q.now).word }
         ensures places { row.new.places.items ≡ (outcome_at T.ops T.SCALE s.now q.now).places }
-        ensures encloses { RowHolds s.now q.now (record { scale = T.SCALE; word = row.new.word; places = row.new.places }) }
+        ensures encloses { RowHolds s.now q.now
+            (record { scale = T.SCALE; word = row.new.word; places = row.new.places }) }
     {
         match start::<T>(s, q) {
             Step::Val(ray) => walk(s, self.faces.as_slice(), ray, row),

@@ -74,7 +74,8 @@ fn plain<T: Arith>(x: &Dec, y: &Dec, p: &Dec, q: &Dec) -> Step<Foot<T>>
 /// The foot of a ray that is given by its point in the pupil plane.
 fn pupil<T: Arith>(p: &Dec, q: &Dec, px: &Ratio, py: &Ratio, z: &Dec, r: &Dec) -> Step<Foot<T>>
     requires { T.SCALE ≤ 15 }
-    ensures exact { result ≡ rows.launch_rows T.ops T.SCALE (Launch.Pupil p.now q.now px.now py.now z.now r.now) }
+    ensures exact { result
+        ≡ rows.launch_rows T.ops T.SCALE (Launch.Pupil p.now q.now px.now py.now z.now r.now) }
     ensures part_x { 1 ≤ px.now.den }
     ensures part_y { 1 ≤ py.now.den }
 {
@@ -155,7 +156,8 @@ fn rows_of<T: Arith>(q: &Launch, e: i128) -> Step<Ray<T>>
 /// that is, and never Empty.
 pub fn start<T: Arith>(s: &Setup, q: &Launch) -> Step<Ray<T>>
     requires { T.SCALE ≤ 15 }
-    ensures exact { result ≡ rows.start_rows T.ops T.SCALE q.now (units_of_residual T.SCALE s.now.res) }
+    ensures exact { result
+        ≡ rows.start_rows T.ops T.SCALE q.now (units_of_residual T.SCALE s.now.res) }
 
     // Each ray that starts as the launch asks is held by the answer.
     ensures encloses { EnclosesStart T.member s.now q.now result }

@@ -43,7 +43,8 @@ pub fn blank() -> Row
 pub(crate) fn end_at_image<T: Arith>(s: &Setup, row: &mut Row)
     requires scale { T.SCALE ≤ 15 }
     requires well { IsWellFormed s.now }
-    ensures word { row.new.word ≡ if any_wide T.SCALE s.now.width row.old.places.items then Word.Wide else row.old.word }
+    ensures word { row.new.word ≡ if any_wide T.SCALE s.now.width row.old.places.items
+        then Word.Wide else row.old.word }
     ensures places { row.new.places.items ≡ row.old.places.items }
 {
     if Bound::at(T::SCALE, &s.width).is_below_some(row.places.as_slice()) {
@@ -56,7 +57,8 @@ fn walk<T: Arith, L: Ledger>(s: &Setup, start: Ray<T>, steps: &mut Steps<L>, row
     requires scale { T.SCALE ≤ 15 }
     requires well { IsWellFormed s.now }
     ensures word { row.new.word ≡ (goings.outcome_first T.ops T.SCALE T.member s.now start).word }
-    ensures places { row.new.places.items ≡ (goings.outcome_first T.ops T.SCALE T.member s.now start).places }
+    ensures places { row.new.places.items
+        ≡ (goings.outcome_first T.ops T.SCALE T.member s.now start).places }
     ensures sure { IsSureFrom T.ops T.SCALE T.member s.now 1 start }
     ensures rises { steps.old ≤ steps.new }
     ensures ticks { steps.new ≤ steps.old + values.image s.now }
@@ -83,7 +85,8 @@ fn outcome<T: Arith, L: Ledger>(s: &Setup, q: &Launch, steps: &mut Steps<L>, row
     requires well { IsWellFormed s.now }
     ensures word { row.new.word ≡ (outcome_at T.ops T.SCALE s.now q.now).word }
     ensures places { row.new.places.items ≡ (outcome_at T.ops T.SCALE s.now q.now).places }
-    ensures encloses { RowHolds s.now q.now (record { scale = T.SCALE; word = row.new.word; places = row.new.places }) }
+    ensures encloses { RowHolds s.now q.now
+        (record { scale = T.SCALE; word = row.new.word; places = row.new.places }) }
     ensures rises { steps.old ≤ steps.new }
     ensures ticks { steps.new ≤ steps.old + values.image s.now }
 {
@@ -103,8 +106,10 @@ pub fn trace<T: Arith, L: Ledger>(
 ) -> (Word, ArrayVec<Place, 64>)
     requires scale { T.SCALE ≤ 15 }
     requires well { IsWellFormed s.now }
-    ensures exact { let out = outcome_at T.ops T.SCALE s.now q.now in result ≡ (out.word, record { items = out.places }) }
-    ensures encloses { RowHolds s.now q.now (record { scale = T.SCALE; word = result.0; places = result.1 }) }
+    ensures exact { let out = outcome_at T.ops T.SCALE s.now q.now in result
+        ≡ (out.word, record { items = out.places }) }
+    ensures encloses { RowHolds s.now q.now
+        (record { scale = T.SCALE; word = result.0; places = result.1 }) }
     ensures rises { steps.old ≤ steps.new }
     ensures ticks { steps.new ≤ steps.old + values.image s.now }
 {

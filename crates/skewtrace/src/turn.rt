@@ -29,7 +29,16 @@ use sagform::ray::{Dir, Hit, Ray};
 
 /// The ray that leaves a point in a direction.
 fn leaving<T: Arith>(h: &Hit<T>, d: &Dir<T>) -> Ray<T>
-    ensures { result ≡ record { x = h.now.x; y = h.now.y; z = h.now.z; l = d.now.l; m = d.now.m; n = d.now.n; path = h.now.path } }
+    ensures { result ≡ record {
+      x = h.now.x;
+      y = h.now.y;
+      z = h.now.z;
+      l = d.now.l;
+      m = d.now.m;
+      n
+          = d.now.n;
+      path = h.now.path;
+    } }
 {
     Ray {
         x: h.x,
@@ -52,9 +61,14 @@ fn leave<T: Arith>(
 ) -> Going<T>
     requires scale { T.SCALE ≤ 15 }
     requires room { length row.old.places.items < 64 }
-    ensures going { (s : Setup) → result ≡ goings.going_of (turns.turn_left T.ops T.SCALE s j h.now rim2 d) }
-    ensures word { (s : Setup) → row.new.word ≡ goings.word_after row.old j (turns.turn_left T.ops T.SCALE s j h.now rim2 d) }
-    ensures places { (s : Setup) → row.new.places.items ≡ goings.places_after row.old (turns.turn_left T.ops T.SCALE s j h.now rim2 d) }
+    ensures going { (s : Setup)
+        → result ≡ goings.going_of (turns.turn_left T.ops T.SCALE s j h.now rim2 d) }
+    ensures word { (s : Setup)
+        → row.new.word ≡ goings.word_after row.old j
+        (turns.turn_left T.ops T.SCALE s j h.now rim2 d) }
+    ensures places { (s : Setup)
+        → row.new.places.items
+        ≡ goings.places_after row.old (turns.turn_left T.ops T.SCALE s j h.now rim2 d) }
     ensures count { length row.new.places.items ≤ suc (length row.old.places.items) }
 {
     match d {
@@ -88,9 +102,14 @@ fn at_rim<T: Arith>(
     requires low { 1 ≤ j }
     requires high { j ≤ values.image s.now }
     requires room { length row.old.places.items < 64 }
-    ensures going { result ≡ goings.going_of (turns.turn_at_rim T.ops T.SCALE s.now j f.now r.now h.now rim2) }
-    ensures word { row.new.word ≡ goings.word_after row.old j (turns.turn_at_rim T.ops T.SCALE s.now j f.now r.now h.now rim2) }
-    ensures places { row.new.places.items ≡ goings.places_after row.old (turns.turn_at_rim T.ops T.SCALE s.now j f.now r.now h.now rim2) }
+    ensures going { result
+        ≡ goings.going_of (turns.turn_at_rim T.ops T.SCALE s.now j f.now r.now h.now rim2) }
+    ensures word { row.new.word
+        ≡ goings.word_after row.old j
+        (turns.turn_at_rim T.ops T.SCALE s.now j f.now r.now h.now rim2) }
+    ensures places { row.new.places.items
+        ≡ goings.places_after row.old
+        (turns.turn_at_rim T.ops T.SCALE s.now j f.now r.now h.now rim2) }
     ensures count { length row.new.places.items ≤ suc (length row.old.places.items) }
     ensures sure { enclosing.LeavesSurely T.ops T.SCALE T.member s.now j f.now r.now h.now rim2 }
 {
@@ -112,9 +131,12 @@ fn meet<T: Arith>(s: &Setup, j: u32, f: &Face<T>, r: &Ray<T>, h: &Hit<T>, row: &
     requires low { 1 ≤ j }
     requires high { j ≤ values.image s.now }
     requires room { length row.old.places.items < 64 }
-    ensures going { result ≡ goings.going_of (turns.met_turn T.ops T.SCALE s.now j f.now r.now h.now) }
-    ensures word { row.new.word ≡ goings.word_after row.old j (turns.met_turn T.ops T.SCALE s.now j f.now r.now h.now) }
-    ensures places { row.new.places.items ≡ goings.places_after row.old (turns.met_turn T.ops T.SCALE s.now j f.now r.now h.now) }
+    ensures going { result
+        ≡ goings.going_of (turns.met_turn T.ops T.SCALE s.now j f.now r.now h.now) }
+    ensures word { row.new.word
+        ≡ goings.word_after row.old j (turns.met_turn T.ops T.SCALE s.now j f.now r.now h.now) }
+    ensures places { row.new.places.items
+        ≡ goings.places_after row.old (turns.met_turn T.ops T.SCALE s.now j f.now r.now h.now) }
     ensures count { length row.new.places.items ≤ suc (length row.old.places.items) }
     ensures sure { enclosing.MeetsSurely T.ops T.SCALE T.member s.now j f.now r.now h.now }
 {
@@ -129,8 +151,10 @@ fn cross<T: Arith>(s: &Setup, j: u32, f: &Face<T>, r: &Ray<T>, row: &mut Row) ->
     requires high { j ≤ values.image s.now }
     requires room { length row.old.places.items < 64 }
     ensures going { result ≡ goings.going_of (turns.cross_turn T.ops T.SCALE s.now j f.now r.now) }
-    ensures word { row.new.word ≡ goings.word_after row.old j (turns.cross_turn T.ops T.SCALE s.now j f.now r.now) }
-    ensures places { row.new.places.items ≡ goings.places_after row.old (turns.cross_turn T.ops T.SCALE s.now j f.now r.now) }
+    ensures word { row.new.word
+        ≡ goings.word_after row.old j (turns.cross_turn T.ops T.SCALE s.now j f.now r.now) }
+    ensures places { row.new.places.items
+        ≡ goings.places_after row.old (turns.cross_turn T.ops T.SCALE s.now j f.now r.now) }
     ensures count { length row.new.places.items ≤ suc (length row.old.places.items) }
     ensures sure { enclosing.MovesSurely T.ops T.SCALE T.member s.now j f.now r.now }
 {
@@ -149,9 +173,12 @@ fn turn<T: Arith>(s: &Setup, j: u32, ready: &Ready<T>, r: &Ray<T>, row: &mut Row
     requires low { 1 ≤ j }
     requires high { j ≤ values.image s.now }
     requires room { length row.old.places.items < 64 }
-    ensures going { result ≡ goings.going_of (turns.turn T.ops T.SCALE s.now j (step_of ready.now) r.now) }
-    ensures word { row.new.word ≡ goings.word_after row.old j (turns.turn T.ops T.SCALE s.now j (step_of ready.now) r.now) }
-    ensures places { row.new.places.items ≡ goings.places_after row.old (turns.turn T.ops T.SCALE s.now j (step_of ready.now) r.now) }
+    ensures going { result
+        ≡ goings.going_of (turns.turn T.ops T.SCALE s.now j (step_of ready.now) r.now) }
+    ensures word { row.new.word
+        ≡ goings.word_after row.old j (turns.turn T.ops T.SCALE s.now j (step_of ready.now) r.now) }
+    ensures places { row.new.places.items
+        ≡ goings.places_after row.old (turns.turn T.ops T.SCALE s.now j (step_of ready.now) r.now) }
     ensures count { length row.new.places.items ≤ suc (length row.old.places.items) }
     ensures sure { enclosing.TurnsSurely T.ops T.SCALE T.member s.now j (step_of ready.now) r.now }
 {

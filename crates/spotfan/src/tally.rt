@@ -91,7 +91,8 @@ impl Tally {
         requires few { self.old.rows < 10_000 }
         requires low { 6 ≤ r.now.scale }
         requires high { r.now.scale ≤ 15 }
-        ensures sums { (rows : List RowValue) → self.old ≡ sums_of rows → self.new ≡ sums_of (rows ++ r.now ∷ []) }
+        ensures sums { (rows : List RowValue) → self.old ≡ sums_of rows
+            → self.new ≡ sums_of (rows ++ r.now ∷ []) }
         ensures rows { self.new.rows ≡ self.old.rows + 1 }
         ensures passes { self.new.passes ≡ self.old.passes + (if spot.passes r.now then 1 else 0) }
     {
@@ -126,7 +127,8 @@ impl Tally {
     /// cap; never Empty.
     pub fn centre(&self) -> Step<(Span, Span)>
         requires { 0 < self.now.passes }
-        ensures exact { (rows : List RowValue) → self.now ≡ sums_of rows → result ≡ spot.centroid rows }
+        ensures exact { (rows : List RowValue) → self.now ≡ sums_of rows
+            → result ≡ spot.centroid rows }
 
         // The means of x and of y over one point of each row that passes lie in them.
         ensures encloses { (rows : List RowValue) → self.now ≡ sums_of rows
@@ -153,7 +155,8 @@ impl Tally {
     /// Empty.
     pub fn spread(&self) -> Step<Span>
         requires { 0 < self.now.passes }
-        ensures exact { (rows : List RowValue) → self.now ≡ sums_of rows → result ≡ spot.mean_square rows }
+        ensures exact { (rows : List RowValue) → self.now ≡ sums_of rows
+            → result ≡ spot.mean_square rows }
 
         // The mean square distance of one point of each row that passes from their mean lies in it.
         ensures encloses { (rows : List RowValue) → self.now ≡ sums_of rows
