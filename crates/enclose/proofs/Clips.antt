@@ -1,20 +1,12 @@
 -- What a clip answers.
-use Rattle.std.proofs.Common.{◌≡◌, ◌∙◌, true, false, sym, refl, arith}
+use Rattle.std.proofs.Common.{◌≡◌, ◌∙◌, true, false, sym, refl}
 use Rattle.std.specs.Prelude.{ℤ, int_le, if◌then◌else◌}
 use Rattle.std.specs.Int.{int_min, int_max}
-use Rattle.std.proofs.lemmas.Bool.Decides.{nat_tests}
 use Rattle.fixdec.specs.Ends.{Ends, InCap}
-use Rattle.fixdec.specs.Interval.{ends, fits_cap, iv_clip}
+use Rattle.fixdec.specs.Interval.{ends, iv_clip}
 use Rattle.fixdec.specs.declared.step.Step.{Step}
 use Rattle.fixdec.specs.declared.step.Step.TheVariants.{Val, Empty}
-
-within : (z : ℤ) → InCap z → fits_cap z ≡ true
-within z h = grind (arith, nat_tests)
-
--- ends within the cap are the answer
-pub ends_kept : (lo hi : ℤ) → InCap lo → InCap hi → ends lo hi ≡ Val (record { lo = lo; hi = hi })
-unfolding ends
-ends_kept lo hi p q = rw (within lo p, within hi q)
+use Rattle.enclose.specs.EndLaws.{ends_kept}
 
 -- the answer of a clip, by the order of its ends
 unfoldable choice : ℤ → ℤ → Step Ends

@@ -4,14 +4,24 @@ use Rattle.std.proofs.lemmas.Int.{ints, clamps, by_lt_z}
 use Rattle.std.specs.Prelude.{ℤ, pos, negsuc, ◌*ℤ◌, ◌≤ℤ◌, ◌<ℤ◌, unsigned_abs, if◌then◌else◌}
 use native.Mathlib.Nat.{mul-le-mul}
 use Rattle.std.proofs.lemmas.Bool.{cond_both}
-use Rattle.fixdec.specs.Ends.{Ends}
-use Rattle.fixdec.specs.Interval.{unit, least, greatest, least_product, greatest_product, holds_zero, least_size, greatest_size, least_quotient, greatest_quotient, positive_part}
+use Rattle.std.proofs.lemmas.Bool.Decides.{nat_tests}
+use Rattle.fixdec.specs.Ends.{Ends, InCap}
+use Rattle.fixdec.specs.Interval.{ends, fits_cap, unit, least, greatest, least_product, greatest_product, holds_zero, least_size, greatest_size, least_quotient, greatest_quotient, positive_part}
 use Rattle.fixdec.specs.Algebra.Products.{IsBelowProducts, IsAboveProducts, IsBelowSizes, IsAboveSizes}
 use Rattle.fixdec.specs.Algebra.Quotients.{IsBelowQuotients, IsAboveQuotients}
 use Rattle.fixdec.specs.Root.{root, root_up_by}
 use Rattle.fixdec.specs.Algebra.RootLaws.{root_is, root_unique, root_up_by_is}
 use Rattle.fixdec.specs.Algebra.Roots.{IsBelowRoot, IsAboveRoot}
 use Rattle.fixdec.specs.Rounding.{floor, ceil}
+use Rattle.fixdec.specs.declared.step.Step.TheVariants.{Val}
+
+-- ---- ends within the cap are the answer
+within : (z : ℤ) → InCap z → fits_cap z ≡ true
+within z h = grind (arith, nat_tests)
+
+pub ends_kept : (lo hi : ℤ) → InCap lo → InCap hi → ends lo hi ≡ Val (record { lo = lo; hi = hi })
+unfolding ends
+ends_kept lo hi p q = rw (within lo p, within hi q)
 
 -- ---- four numbers
 pub record IsBelow (m p q r s : ℤ) : Type 0 where

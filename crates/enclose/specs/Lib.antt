@@ -1,3 +1,4 @@
 pub mod EndLaws
 pub mod IntervalLaws
 pub mod IvLaws
+pub mod Zeros

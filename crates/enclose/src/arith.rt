@@ -5,6 +5,7 @@ ghost use Rattle.fixdec.specs.Ends.{Ends, InCap};
 ghost use Rattle.fixdec.specs.Frac.{Frac};
 ghost use Rattle.fixdec.specs.Member.{Symbols};
 ghost use Rattle.fixdec.specs.Operations.{Operations, IsLawful};
+ghost use Rattle.enclose.specs.Zeros.{LeavesZero, single};
 
 use fixdec::span::Span;
 use fixdec::step::Step;
@@ -90,6 +91,14 @@ pub trait Arith: Copy {
         requires sign { pos 0 ≤ℤ delta.lo }
         requires narrow { delta.hi ≤ℤ (delta.lo +ℤ pos 1) }
         ensures { result ≡ ops.symbol self i delta };
+
+    /// A fact for proofs, without work: the value times zero is zero, and plus zero is the value.
+    fn leaves_zero(&self)
+        requires { SCALE ≤ 15 }
+        ensures { LeavesZero ops self.now };
+
+    /// It holds of the value of each number within the cap.
+    ghost number_leaves_zero: { SCALE ≤ 15 → (z : ℤ) → InCap z → LeavesZero ops (ops.of_span (single z)) };
 
     /// The laws, from which generic code is proved.
     ghost lawful: { SCALE ≤ 15 → IsLawful SCALE ops member };

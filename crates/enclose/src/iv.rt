@@ -5,6 +5,7 @@ ghost use Rattle.std.specs.Prelude.{◌≡◌, ℕ, ℤ, pos, negsuc, ◌≤◌,
 ghost use Rattle.fixdec.specs.Ends.{Ends, InCap};
 ghost use Rattle.fixdec.specs.IntervalOperations.{operations};
 ghost use Rattle.enclose.specs.IvLaws.{iv_member, iv_lawful};
+ghost use Rattle.enclose.specs.Zeros as zeros;
 
 use crate::arith::Arith;
 use crate::spans;
@@ -48,6 +49,8 @@ impl<const S: u32> Arith for Iv<S> {
     ghost member = { iv_member S };
 
     ghost lawful = { λ _. iv_lawful S };
+
+    ghost number_leaves_zero = { λ _. zeros.number_leaves_zero S };
 
     #[inline(always)]
     fn of_span(s: Span) -> Iv<S> {
@@ -107,6 +110,11 @@ impl<const S: u32> Arith for Iv<S> {
     #[inline(always)]
     fn symbol(self, _i: usize, delta: Span) -> Step<Iv<S>> {
         of_step(spans::iv_widen(self.span, delta.hi))
+    }
+
+    #[inline(always)]
+    fn leaves_zero(&self) {
+        let _lo = self.span.lo; // so that its ends are known to be within the cap
     }
 }
 

@@ -2,6 +2,7 @@ pub mod Corrections
 pub mod Divided
 pub mod FormLaws
 pub mod FormMembers
+pub mod FormZeros
 pub mod Kept
 pub mod Leftovers
 pub mod ProductLaw

@@ -4,6 +4,7 @@
 ghost use Rattle.fixdec.specs.Form.{linear_operations};
 ghost use Rattle.fixdec.specs.FormMember.{IsFormMember};
 ghost use Rattle.forms.specs.FormLaws.{linear_lawful};
+ghost use Rattle.forms.specs.FormZeros as zeros;
 
 use super::{Form, quotients, roots, rounded, spans, sums};
 use enclose::arith::Arith;
@@ -23,6 +24,8 @@ impl<const S: u32> Arith for Form<S> {
     ghost member = { IsFormMember S };
 
     ghost lawful = { λ _. linear_lawful S };
+
+    ghost number_leaves_zero = { λ _. zeros.number_leaves_zero S };
 
     fn of_span(s: Span) -> Form<S> {
         spans::of_span(s)
@@ -70,5 +73,10 @@ impl<const S: u32> Arith for Form<S> {
 
     fn symbol(self, i: usize, delta: Span) -> Step<Form<S>> {
         sums::symbol(&self, i, delta)
+    }
+
+    #[inline(always)]
+    fn leaves_zero(&self) {
+        let _centre = self.centre; // so that what holds of the form is known
     }
 }
