@@ -98,7 +98,8 @@ pub trait Arith: Copy {
         ensures { LeavesZero ops self.now };
 
     /// It holds of the value of each number within the cap.
-    ghost number_leaves_zero: { SCALE ≤ 15 → (z : ℤ) → InCap z → LeavesZero ops (ops.of_span (single z)) };
+    ghost number_leaves_zero: { SCALE ≤ 15 → (z : ℤ) → InCap z
+        → LeavesZero ops (ops.of_span (single z)) };
 
     /// The laws, from which generic code is proved.
     ghost lawful: { SCALE ≤ 15 → IsLawful SCALE ops member };

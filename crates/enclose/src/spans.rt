@@ -180,7 +180,8 @@ pub fn iv_size(a: Span) -> Span
 pub fn iv_square(scale: u32, a: Span) -> Step<Span>
     requires { scale ≤ 15 }
     ensures exact { result ≡ spec.iv_square scale a }
-    ensures encloses { (u : Frac) → IsMember scale a u → OnVal result (λ r. IsMember scale r (u *Q u)) }
+    ensures encloses { (u : Frac) → IsMember scale a u
+        → OnVal result (λ r. IsMember scale r (u *Q u)) }
 {
     let smallest = short(least_size(a));
     let largest = short(greatest_size(a));

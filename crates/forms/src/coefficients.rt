@@ -203,13 +203,17 @@ pub fn round_mixed(
     requires second_factor { InCap y }
     requires first { spec.sizes ka.now ≤ 10 ^ 18 }
     requires second { spec.sizes kb.now ≤ 10 ^ 18 }
-    ensures lost { result ≡ None → 10 ^ 18 < spec.sizes (spec.quotients by.now (weighted x ka.now y kb.now)) }
-    ensures value { IfSome result (λ r. out.new ≡ spec.quotients by.now (weighted x ka.now y kb.now)) }
+    ensures lost { result ≡ None
+        → 10 ^ 18 < spec.sizes (spec.quotients by.now (weighted x ka.now y kb.now)) }
+    ensures value { IfSome result
+        (λ r. out.new ≡ spec.quotients by.now (weighted x ka.now y kb.now)) }
     ensures used { IfSome result (λ r. r.counted.used ≡ in_use out.new) }
     ensures size { IfSome result (λ r. r.counted.size ≡ spec.sizes out.new) }
-    ensures remainders { IfSome result (λ r. r.remainders ≡ spec.remainders by.now (weighted x ka.now y kb.now)) }
+    ensures remainders { IfSome result
+        (λ r. r.remainders ≡ spec.remainders by.now (weighted x ka.now y kb.now)) }
     ensures few { IfSome result (λ r. r.remainders ≤ 32) }
-    ensures numerators { IfSome result (λ r. r.numerators ≡ spec.sizes (weighted x ka.now y kb.now)) }
+    ensures numerators { IfSome result
+        (λ r. r.numerators ≡ spec.sizes (weighted x ka.now y kb.now)) }
     ensures bound { IfSome result (λ r. r.numerators ≤ 2 * 10 ^ 36) }
 {
     let mut used = 0;

@@ -67,7 +67,8 @@ fn kept<const S: u32>(
     requires size { counted.size ≡ spec.sizes coefficients.now }
     requires used { counted.used ≡ in_use coefficients.now }
     requires radius { radius ≤ 10 ^ 37 }
-    ensures { result ≡ spec.within_cap (record { centre = centre; coefficients = coefficients.now; radius = radius }) }
+    ensures { result ≡ spec.within_cap
+        (record { centre = centre; coefficients = coefficients.now; radius = radius }) }
 {
     let deviation = counted.size as u128 + radius;
     if centre.unsigned_abs() + deviation <= CAP.unsigned_abs() {

@@ -15,7 +15,8 @@ use fixdec::step::{Step, Why};
 #[inline(always)]
 fn turned(divisor: i64, z: i64) -> i64
     requires { InCap z }
-    ensures value { ((pos 0 ≤ℤ divisor) × (result ≡ z)) ⊎ ((divisor <ℤ pos 0) × (result ≡ neg_ℤ z)) }
+    ensures value { ((pos 0 ≤ℤ divisor) × (result ≡ z)) ⊎
+        ((divisor <ℤ pos 0) × (result ≡ neg_ℤ z)) }
     ensures bound { unsigned_abs result ≡ unsigned_abs z }
 {
     if divisor < 0 { -z } else { z }

@@ -52,7 +52,9 @@ fn reach(scale: u32, s: u128, lo: i128, hi: i128) -> u128
     requires middle { s ≤ 10 ^ 17 }
     requires low { InCap lo }
     requires high { InCap hi }
-    ensures value { result ≡ max (s - root (unsigned_abs lo * 10 ^ scale)) (root_up_by (unsigned_abs hi * 10 ^ scale) - s) }
+    ensures value { result
+        ≡ max (s - root (unsigned_abs lo * 10 ^ scale))
+        (root_up_by (unsigned_abs hi * 10 ^ scale) - s) }
     ensures bound { result ≤ 10 ^ 17 }
 {
     s.saturating_sub(root_down(scale, lo))

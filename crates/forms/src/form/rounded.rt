@@ -30,7 +30,13 @@ pub fn divided<const S: u32>(
     requires used { rounded.counted.used ≡ in_use coefficients.now }
     requires remainders { rounded.remainders ≤ 32 }
     requires radius { radius ≤ 5 * 10 ^ 36 }
-    ensures { result ≡ spec.within_cap (record { centre = q +ℤ floor n by.now; coefficients = coefficients.now; radius = radius + (rounded.remainders + cond (spec.has_remainder by.now n) 1 0) }) }
+    ensures { result ≡ spec.within_cap
+        (record {
+          centre = q +ℤ floor n by.now;
+          coefficients = coefficients.now;
+          radius = radius
+              + (rounded.remainders + cond (spec.has_remainder by.now n) 1 0);
+        }) }
 {
     let centre = by.quotient(n);
     let rest = counted_with(rounded.remainders, centre.has_remainder);
@@ -106,7 +112,10 @@ fn scaled<const S: u32>(a: &Form<S>, factor: i64, divisor: i64) -> Step<Form<S>>
     requires factor { unsigned_abs factor ≤ 10 ^ 15 }
     requires positive_divisor { pos 0 <ℤ divisor }
     requires divisor { unsigned_abs divisor ≤ 10 ^ 15 }
-    ensures { result ≡ spec.within_cap (spec.divided_form divisor (factor *ℤ a.now.centre) (map (λ k. factor *ℤ k) a.now.coefficients) (div_ceil (a.now.radius * unsigned_abs factor) (unsigned_abs divisor))) }
+    ensures { result ≡ spec.within_cap
+        (spec.divided_form divisor (factor *ℤ a.now.centre)
+        (map (λ k. factor *ℤ k) a.now.coefficients)
+        (div_ceil (a.now.radius * unsigned_abs factor) (unsigned_abs divisor))) }
 {
     let by = Divisor::new(divisor);
     let mut coefficients = [0; 32];
