@@ -1,6 +1,6 @@
 //! Texts of raw numbers and decimals.
 
-ghost use Rattle.std.specs.Prelude.{◌≡◌, ℕ, ℤ, pos, ◌+◌, ◌≤◌, ◌<◌, ◌^◌, [], ◌∷◌, ◌++◌, length};
+ghost use Rattle.std.specs.Prelude.{◌≡◌, ℕ, ℤ, pos, ◌+◌, ◌≤◌, ◌<◌, ◌^◌, [], ◌∷◌, ◌++◌, ◌/◌, ◌%◌, length};
 ghost use Rattle.std.specs.Fmt.{decimal, signed_decimal};
 ghost use Rattle.arrayvec.specs.ArrayString.{array_string_len};
 ghost use Rattle.fixdec.specs.DecimalText.{fix_text, dec_text, last_digits, minus_sign};
@@ -18,7 +18,7 @@ pub fn print_fix(raw: i128, scale: u32, out: &mut ArrayString<64>)
 {
     push_minus(raw, out);
     let size = raw.unsigned_abs();
-    push_number(size / 10u128.pow(scale), out);
+    push_number(whole_part(size, scale), out);
     push_byte(b'.', out);
     push_last_digits(size, scale, out);
 }
@@ -68,14 +68,47 @@ fn push_byte(b: u8, out: &mut ArrayString<64>)
     out.push(char::from(b));
 }
 
+// numbers that fit are divided in 64 bits
+fn whole_part(size: u128, scale: u32) -> u128
+    requires { scale ≤ 15 }
+    ensures { result ≡ size / 10 ^ scale }
+{
+    if size <= u64::MAX as u128 {
+        (size as u64 / 10u64.pow(scale)) as u128
+    } else {
+        size / 10u128.pow(scale)
+    }
+}
+
+// a number without its last digit
+fn tenth(n: u128) -> u128
+    ensures { result ≡ n / 10 }
+{
+    if n <= u64::MAX as u128 {
+        (n as u64 / 10) as u128
+    } else {
+        n / 10
+    }
+}
+
+fn last_digit(n: u128) -> u8
+    ensures { result ≡ n % 10 }
+{
+    if n <= u64::MAX as u128 {
+        (n as u64 % 10) as u8
+    } else {
+        (n % 10) as u8
+    }
+}
+
 fn push_number(n: u128, out: &mut ArrayString<64>)
     requires { array_string_len out.old + length (decimal n) ≤ 64 }
     ensures { out.new.bytes ≡ out.old.bytes ++ decimal n }
 {
     if n >= 10 {
-        push_number(n / 10, out);
+        push_number(tenth(n), out);
     }
-    push_digit((n % 10) as u8, out);
+    push_digit(last_digit(n), out);
 }
 
 fn push_last_digits(n: u128, count: u32, out: &mut ArrayString<64>)
@@ -83,7 +116,7 @@ fn push_last_digits(n: u128, count: u32, out: &mut ArrayString<64>)
     ensures { out.new.bytes ≡ out.old.bytes ++ last_digits count n }
 {
     if count > 0 {
-        push_last_digits(n / 10, count - 1, out);
-        push_digit((n % 10) as u8, out);
+        push_last_digits(tenth(n), count - 1, out);
+        push_digit(last_digit(n), out);
     }
 }
