@@ -12,4 +12,5 @@ pub mod Samples
 pub mod Setups
 pub mod SymbolLaws
 pub mod Terms
+pub mod Used
 pub mod Zoned

@@ -4,6 +4,7 @@ ghost use Rattle.std.specs.Prelude.{◌≡◌, ℕ, ℤ, pos, ◌≤◌, ◌≤�
 ghost use Rattle.fixdec.specs.Ends.{InCap};
 ghost use Rattle.lensmodel.specs.Rows.Preparation.{Prepared};
 ghost use Rattle.sagform.specs.Faces.{HasZone};
+ghost use Rattle.sagform.specs.Used.{AreZeroFrom};
 
 use crate::terms::Terms;
 use enclose::arith::Arith;
@@ -123,6 +124,14 @@ impl<T: Arith> Face<T> {
         ensures { result.now ≡ self.now.b }
     {
         &self.b
+    }
+
+    /// A count of coefficients of the even terms past which each of them is zero.
+    pub fn used(&self) -> usize
+        ensures { AreZeroFrom T.ops result self.now.b }
+    {
+        let terms = &self.b;
+        terms.used
     }
 
     /// The coefficient of `u` in the even terms; 0 of a standard surface.

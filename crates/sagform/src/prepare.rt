@@ -19,6 +19,7 @@ ghost use Rattle.lensmodel.specs.Setup.Zones as zones;
 ghost use Rattle.sagform.specs.Deviations.{symbol_row};
 ghost use Rattle.sagform.specs.Faces.{HasZone};
 ghost use Rattle.sagform.specs.Setups.{IsZoned};
+ghost use Rattle.sagform.specs.Used.{AreWrittenZeroFrom};
 ghost use Rattle.sagform.specs.Zoned.{zone_at, zone_decimal, norm_at, scaled_at};
 
 use crate::constant::{decimal, residual_units, whole};
@@ -198,6 +199,18 @@ fn coefficient<T: Arith>(f: &Surface, zone: &Option<Span>, i: u8) -> Step<T>
     decimal(&scale::shifted(&written(f, i), norm(zone) * i32::from(i)))
 }
 
+/// How many coefficients there are up to the last that isn't written as 0.
+fn used_of(f: &Surface) -> usize
+    requires { IsWrittenSurface f.now }
+    ensures { AreWrittenZeroFrom result (zones.coefficient f.now) }
+{
+    let mut used: u8 = 8;
+    while 0 < used && written(f, used).mant == 0 {
+        used -= 1;
+    }
+    used as usize
+}
+
 /// The coefficients `b1` to `b8`, brought to the power of ten of a zone.
 fn coefficients<T: Arith>(f: &Surface, zone: &Option<Span>) -> Step<Terms<T>>
     requires scale { T.SCALE ≤ 15 }
@@ -214,6 +227,7 @@ fn coefficients<T: Arith>(f: &Surface, zone: &Option<Span>) -> Step<Terms<T>>
         b6: val!(coefficient(f, zone, 6)),
         b7: val!(coefficient(f, zone, 7)),
         b8: val!(coefficient(f, zone, 8)),
+        used: used_of(f),
     })
 }
 

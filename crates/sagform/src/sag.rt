@@ -1,11 +1,13 @@
 //! Sags of even aspheres, and the slopes of normals.
 
-ghost use Rattle.std.specs.Prelude.{◌≡◌, ℤ, pos, ◌≤◌, ◌≤ℤ◌};
+ghost use Rattle.std.specs.Prelude.{◌≡◌, ℤ, pos, ◌<◌, ◌≤◌, ◌≤ℤ◌};
 ghost use Rattle.fixdec.specs.Ends.{InCap};
+ghost use Rattle.fixdec.specs.declared.step.Step.TheVariants.{Val};
 ghost use Rattle.lensmodel.specs.Rows.Bending as bending;
 ghost use Rattle.lensmodel.specs.Rows.Sag as rows;
 ghost use Rattle.sagform.specs.Polynomials as polynomials;
 ghost use Rattle.sagform.specs.SagLaws.{EnclosesSag, EnclosesSlope};
+ghost use Rattle.sagform.specs.Used.{zero_of};
 
 use crate::constant::whole;
 use crate::face::Face;
@@ -66,18 +68,36 @@ fn term<T: Arith>(b: T, u: T, v: T) -> Step<T>
     b.plus(val!(u.times(v)))
 }
 
-/// `b1 + (u*(b2 + ..))`, from the last coefficient down.
+/// `b + (u*v)`: coefficient `i`, and the value behind it, which is zero unless more than `i`
+/// coefficients are in use. Only then is anything computed.
+pub fn term_at<T: Arith>(used: usize, i: usize, b: T, u: T, v: T) -> Step<T>
+    requires scale { T.SCALE ≤ 15 }
+    requires none { used ≤ i → v ≡ zero_of T.ops }
+    ensures value { result ≡ polynomials.term_row T.ops T.SCALE b u v }
+    ensures same { used ≤ i → result ≡ Val b }
+{
+    if used <= i {
+        b.leaves_zero();
+        u.leaves_zero();
+        Step::Val(b)
+    } else {
+        term(b, u, v)
+    }
+}
+
+/// `b1 + (u*(b2 + ..))`, from the last coefficient in use down.
 fn last_value<T: Arith>(b: &Terms<T>, u: T) -> Step<T>
     requires { T.SCALE ≤ 15 }
     ensures { result ≡ polynomials.last_value T.ops T.SCALE u b.now }
 {
-    let v7 = val!(term(b.b7, u, b.b8));
-    let v6 = val!(term(b.b6, u, v7));
-    let v5 = val!(term(b.b5, u, v6));
-    let v4 = val!(term(b.b4, u, v5));
-    let v3 = val!(term(b.b3, u, v4));
-    let v2 = val!(term(b.b2, u, v3));
-    term(b.b1, u, v2)
+    let used = b.used;
+    let v7 = val!(term_at(used, 7, b.b7, u, b.b8));
+    let v6 = val!(term_at(used, 6, b.b6, u, v7));
+    let v5 = val!(term_at(used, 5, b.b5, u, v6));
+    let v4 = val!(term_at(used, 4, b.b4, u, v5));
+    let v3 = val!(term_at(used, 3, b.b3, u, v4));
+    let v2 = val!(term_at(used, 2, b.b2, u, v3));
+    term_at(used, 1, b.b1, u, v2)
 }
 
 /// V1 of the even terms.
@@ -104,19 +124,54 @@ fn slope_term<T: Arith>(i: u32, b: T, u: T, w: T) -> Step<T>
     val!(weighted(i, b)).plus(val!(u.times(w)))
 }
 
-/// W1 of the slope of the even terms.
+/// `i*b`, which is zero unless at least `i` coefficients are in use.
+fn weighted_at<T: Arith>(used: usize, i: u32, b: T) -> Step<T>
+    requires scale { T.SCALE ≤ 15 }
+    requires index { i ≤ 8 }
+    requires none { used < i → b ≡ zero_of T.ops }
+    ensures value { result ≡ polynomials.weighted_row T.ops T.SCALE i b }
+    ensures same { used < i → result ≡ Val b }
+{
+    if used < i as usize {
+        Step::Val(b)
+    } else {
+        weighted(i, b)
+    }
+}
+
+/// `(i*b) + (u*w)`, where `w` is zero unless more than `i` coefficients are in use.
+fn slope_term_at<T: Arith>(used: usize, i: u32, b: T, u: T, w: T) -> Step<T>
+    requires scale { T.SCALE ≤ 15 }
+    requires index { i ≤ 8 }
+    requires none { used < i → b ≡ zero_of T.ops }
+    requires none_behind { used ≤ i → w ≡ zero_of T.ops }
+    ensures value { result ≡ polynomials.slope_term_row T.ops T.SCALE i b u w }
+    ensures same { used < i → result ≡ Val b }
+{
+    if used <= i as usize {
+        let own = val!(weighted_at(used, i, b));
+        own.leaves_zero();
+        u.leaves_zero();
+        Step::Val(own)
+    } else {
+        slope_term(i, b, u, w)
+    }
+}
+
+/// W1 of the slope of the even terms, from the last coefficient in use down.
 fn slope<T: Arith>(b: &Terms<T>, u: T) -> Step<T>
     requires { T.SCALE ≤ 15 }
     ensures { result ≡ rows.slope_row T.ops T.SCALE 1 u b.now }
 {
-    let w8 = val!(weighted(8, b.b8));
-    let w7 = val!(slope_term(7, b.b7, u, w8));
-    let w6 = val!(slope_term(6, b.b6, u, w7));
-    let w5 = val!(slope_term(5, b.b5, u, w6));
-    let w4 = val!(slope_term(4, b.b4, u, w5));
-    let w3 = val!(slope_term(3, b.b3, u, w4));
-    let w2 = val!(slope_term(2, b.b2, u, w3));
-    slope_term(1, b.b1, u, w2)
+    let used = b.used;
+    let w8 = val!(weighted_at(used, 8, b.b8));
+    let w7 = val!(slope_term_at(used, 7, b.b7, u, w8));
+    let w6 = val!(slope_term_at(used, 6, b.b6, u, w7));
+    let w5 = val!(slope_term_at(used, 5, b.b5, u, w6));
+    let w4 = val!(slope_term_at(used, 4, b.b4, u, w5));
+    let w3 = val!(slope_term_at(used, 3, b.b3, u, w4));
+    let w2 = val!(slope_term_at(used, 2, b.b2, u, w3));
+    slope_term_at(used, 1, b.b1, u, w2)
 }
 
 /// The rows of the sag.
