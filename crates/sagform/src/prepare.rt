@@ -194,7 +194,8 @@ fn coefficient<T: Arith>(f: &Surface, zone: &Option<Span>, i: u8) -> Step<T>
     requires high { i ≤ 8 }
     requires written { IsWrittenSurface f.now }
     requires range { IfSome zone.now (λ zone. IsZone zone) }
-    ensures { result ≡ constants.decimal_row T.ops T.SCALE (dec_shifted (zones.coefficient f.now i) (norm_at zone.now *ℤ pos i)) }
+    ensures { result ≡ constants.decimal_row T.ops T.SCALE
+        (dec_shifted (zones.coefficient f.now i) (norm_at zone.now *ℤ pos i)) }
 {
     decimal(&scale::shifted(&written(f, i), norm(zone) * i32::from(i)))
 }
@@ -236,7 +237,8 @@ fn distance<T: Arith>(s: &Setup, j: u32) -> Step<T>
     requires scale { T.SCALE ≤ 15 }
     requires surface { j < length s.now.lens.surfaces.items }
     requires toler { IsBox (values.image s.now) (values.tolerances s.now.toler) }
-    ensures { result ≡ rows.distance_by T.ops T.SCALE (rows.with_symbol T.ops T.SCALE s.now) s.now j }
+    ensures { result ≡ rows.distance_by T.ops T.SCALE (rows.with_symbol T.ops T.SCALE s.now) s.now
+        j }
 {
     if j == 0 {
         return whole(0);
@@ -251,7 +253,8 @@ fn curvature<T: Arith>(s: &Setup, j: u32) -> Step<T>
     requires scale { T.SCALE ≤ 15 }
     requires surface { j < length s.now.lens.surfaces.items }
     requires toler { IsBox (values.image s.now) (values.tolerances s.now.toler) }
-    ensures { result ≡ rows.curvature_by T.ops T.SCALE (rows.with_symbol T.ops T.SCALE s.now) s.now j }
+    ensures { result ≡ rows.curvature_by T.ops T.SCALE (rows.with_symbol T.ops T.SCALE s.now) s.now
+        j }
 {
     let c = val!(decimal::<T>(&surface(s, j).curv));
     with_symbol(tolerances(&s.toler), TolKind::Curv, j, c)
@@ -262,7 +265,8 @@ pub fn index_behind<T: Arith>(s: &Setup, j: u32) -> Step<T>
     requires scale { T.SCALE ≤ 15 }
     requires well { IsWellFormed s.now }
     requires surface { j < values.image s.now }
-    ensures { result ≡ rows.index_row T.ops T.SCALE s.now (constants.residual_units T.SCALE s.now.res) j }
+    ensures { result ≡ rows.index_row T.ops T.SCALE s.now
+        (constants.residual_units T.SCALE s.now.res) j }
 {
     let e = residual_units(T::SCALE, s.res);
     let n = val!(medium_index::<T>(medium(s, j), &s.wave, e));
@@ -274,7 +278,8 @@ fn index_if<T: Arith>(s: &Setup, j: u32) -> Step<Option<T>>
     requires scale { T.SCALE ≤ 15 }
     requires well { IsWellFormed s.now }
     requires surface { j < length s.now.lens.surfaces.items }
-    ensures { result ≡ rows.index_behind_by T.ops T.SCALE (rows.with_symbol T.ops T.SCALE s.now) s.now (constants.residual_units T.SCALE s.now.res) j }
+    ensures { result ≡ rows.index_behind_by T.ops T.SCALE (rows.with_symbol T.ops T.SCALE s.now)
+        s.now (constants.residual_units T.SCALE s.now.res) j }
 {
     if (j as usize) < s.lens.surfaces.len() - 1 {
         Step::Val(Some(val!(index_behind(s, j))))
@@ -288,7 +293,8 @@ fn zone2<T: Arith>(s: &Setup, j: u32) -> Step<Option<T>>
     requires scale { T.SCALE ≤ 15 }
     requires surface { j < length s.now.lens.surfaces.items }
     requires zoned { IsZoned (values.surface_at s.now j) }
-    ensures exact { result ≡ rows.square_row T.ops T.SCALE (zones.zone_of (values.surface_at s.now j)) }
+    ensures exact { result
+        ≡ rows.square_row T.ops T.SCALE (zones.zone_of (values.surface_at s.now j)) }
     ensures kept { OnVal result (λ a. HasZone T.ops.hull (values.surface_at s.now j).kind a) }
 {
     square(&decimal_of(&zone(surface(s, j))))
@@ -311,7 +317,8 @@ fn terms<T: Arith>(s: &Setup, j: u32) -> Step<Terms<T>>
     requires surface { j < length s.now.lens.surfaces.items }
     requires zoned { IsZoned (values.surface_at s.now j) }
     requires written { IsWrittenSurface (values.surface_at s.now j) }
-    ensures { result ≡ rows.decimal_rows T.ops T.SCALE (zones.scaled_coefficients (values.surface_at s.now j)) }
+    ensures { result ≡ rows.decimal_rows T.ops T.SCALE
+        (zones.scaled_coefficients (values.surface_at s.now j)) }
 {
     let f = surface(s, j);
     coefficients(f, &zone(f))
@@ -323,7 +330,8 @@ fn rows_of<T: Arith>(s: &Setup, before: u32, j: u32) -> Step<Face<T>>
     requires well { IsWellFormed s.now }
     requires next { j ≡ suc before }
     requires surface { j < length s.now.lens.surfaces.items }
-    ensures { result ≡ rows.preparation_rows T.ops T.SCALE s.now (constants.residual_units T.SCALE s.now.res) before }
+    ensures { result ≡ rows.preparation_rows T.ops T.SCALE s.now
+        (constants.residual_units T.SCALE s.now.res) before }
 {
     let d = val!(distance::<T>(s, before));
     let c = val!(curvature::<T>(s, j));
@@ -375,7 +383,9 @@ pub fn face<T: Arith, L: Ledger>(s: &Setup, j: u32, steps: &mut Steps<L>) -> Ste
     requires low { 1 ≤ j }
     requires high { j ≤ values.image s.now }
     ensures ticks { steps.new ≡ steps.old + 1 }
-    ensures exact { result ≡ rows.preparation_rows T.ops T.SCALE s.now (constants.residual_units T.SCALE s.now.res) (j - 1) }
+    ensures exact { result
+        ≡ rows.preparation_rows T.ops T.SCALE s.now (constants.residual_units T.SCALE s.now.res)
+        (j - 1) }
 
     // What the surface has in each chain is a member of its value.
     ensures encloses { EnclosesPreparation T.member s.now (j - 1) result }
