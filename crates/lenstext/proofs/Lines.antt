@@ -1,8 +1,7 @@
 -- The first line of a list of units, and what is left behind it.
-use Rattle.std.proofs.Common.{◌≡◌, ◌≢◌, ◌++◌, append_assoc, ℕ, zero, suc, ◌+◌, ◌-◌, ◌<◌, ◌≤◌, Bool, true, List, [], ◌∷◌, length, get_or, take, drop, refl, ap, sym, ◌∙◌, arith, length-drop, get_or-drop, drop-drop}
+use Rattle.std.proofs.Common.{◌≡◌, ◌≢◌, ℕ, zero, suc, ◌+◌, ◌-◌, ◌<◌, ◌≤◌, Bool, List, [], ◌∷◌, length, get_or, take, drop, refl, ap, sym, ◌∙◌, arith, length-drop, get_or-drop, drop-drop}
 use Rattle.std.specs.Prelude.{if◌then◌else◌, slice_range}
 use Rattle.std.proofs.lemmas.Bool.{ne_eqb}
-use Rattle.std.proofs.lemmas.List.{take_more}
 use Rattle.lensmodel.specs.Files.TextLines.{lines, onto_first}
 
 lines-more : (u : ℕ) (us : List ℕ) → u ≢ 10 → lines (u ∷ us) ≡ onto_first u (lines us)
@@ -36,21 +35,3 @@ line_at us start end some after within before at =
     (λ k h e. before (start + k) (omega arith) (omega arith) (sym (get_or-drop start us k 0) ∙ e))
     (λ h. get_or-drop start us n 0 ∙ ap (λ (k : ℕ). get_or us k 0) (let e : start + n ≡ end = omega arith in e) ∙ at (omega arith))
     ∙ ap (λ (ls : List (List ℕ)). take n rest ∷ ls) (ap lines (drop-drop (suc n) start us ∙ ap (λ (k : ℕ). drop k us) (let e : start + suc n ≡ end + 1 = omega arith in e)))
-
-range_more : (us : List ℕ) (start at : ℕ) → start ≤ at → at < length us → slice_range us start (at + 1) ≡ slice_range us start at ++ get_or us at 0 ∷ []
-range_more us start at after within =
-    let rest = drop start us in
-    let n = at - start in
-    let l : length rest ≡ length us - start = length-drop start us in
-    ap (λ (k : ℕ). take k rest) (let e : at + 1 - start ≡ n + 1 = omega arith in e)
-    ∙ take_more rest n 0 (omega arith)
-    ∙ ap (λ (u : ℕ). take n rest ++ u ∷ []) (get_or-drop start us n 0 ∙ ap (λ (k : ℕ). get_or us k 0) (let e : start + n ≡ at = omega arith in e))
-
--- the units of a line so far, and one unit more
-pub unit_copied : (us old units more : List ℕ) (start at u : ℕ) (pushed : Bool) → start ≤ at → at < length us → u ≡ get_or us at 0 → units ≡ old ++ slice_range us start at → more ≡ (if pushed then units ++ u ∷ [] else units) → pushed ≡ true → more ≡ old ++ slice_range us start (at + 1)
-unit_copied us old units more start at u pushed after within is so e ok =
-    e ∙ ap (λ (b : Bool). if b then units ++ u ∷ [] else units) ok
-    ∙ ap (λ (l : List ℕ). l ++ u ∷ []) so
-    ∙ append_assoc old (slice_range us start at) (u ∷ [])
-    ∙ ap (λ (v : ℕ). old ++ (slice_range us start at ++ v ∷ [])) is
-    ∙ ap (λ (l : List ℕ). old ++ l) (sym (range_more us start at after within))

@@ -1,14 +1,14 @@
--- Lines by number, where they are kept as one list of units and the places where they end.
-use Rattle.std.proofs.Common.{◌≡◌, ℕ, zero, suc, ◌+◌, ◌-◌, ◌<◌, ◌≤◌, List, [], ◌∷◌, length, get_or, refl, ap, sym, ◌∙◌, subst, arith}
+-- Lines by number, where they are the units of a file and the places where they end.
+use Rattle.std.proofs.Common.{◌≡◌, ℕ, zero, suc, ◌+◌, ◌<◌, ◌≤◌, List, [], ◌∷◌, length, get_or, refl, ap, sym, ◌∙◌, subst, arith}
 use Rattle.std.specs.Prelude.{slice_range}
 use Rattle.std.proofs.lemmas.List.{get_or_read}
 use Rattle.lenstext.specs.Cuts.{cut, Fits, start_of}
 
 pub length-cut : (from : ℕ) (us ends : List ℕ) → length (cut from us ends) ≡ length ends
 length-cut from us [] = refl
-length-cut from us (end ∷ ends) = ap suc (length-cut end us ends)
+length-cut from us (end ∷ ends) = ap suc (length-cut (suc end) us ends)
 
-start_of-next : (from end : ℕ) (ends : List ℕ) (i : ℕ) → start_of end ends i ≡ start_of from (end ∷ ends) (suc i)
+start_of-next : (from end : ℕ) (ends : List ℕ) (i : ℕ) → start_of (suc end) ends i ≡ start_of from (end ∷ ends) (suc i)
 start_of-next from end ends zero = refl
 start_of-next from end ends (suc i) = refl
 
@@ -16,7 +16,7 @@ cut-at : (from : ℕ) (us ends : List ℕ) (i : ℕ) → i < length ends → get
 cut-at from us [] i h = absurd (omega arith)
 cut-at from us (end ∷ ends) zero h = refl
 cut-at from us (end ∷ ends) (suc i) h =
-    cut-at end us ends i (omega arith) ∙ ap (λ (k : ℕ). slice_range us k (get_or ends i 0)) (start_of-next from end ends i)
+    cut-at (suc end) us ends i (omega arith) ∙ ap (λ (k : ℕ). slice_range us k (get_or ends i 0)) (start_of-next from end ends i)
 
 record Bounds (start end room : ℕ) : Type 0 where
   order : start ≤ end
@@ -28,7 +28,7 @@ Fits-at from room [] i f h = absurd (omega arith)
 Fits-at from room (end ∷ ends) zero f h = record { order = f.0; short = f.1; inside = f.2 }
 Fits-at from room (end ∷ ends) (suc i) f h =
     let P : ℕ → Type 0 = λ k. Bounds k (get_or ends i 0) room in
-    subst P (start_of-next from end ends i) (Fits-at end room ends i f.3 (omega arith))
+    subst P (start_of-next from end ends i) (Fits-at (suc end) room ends i f.3 (omega arith))
 
 -- two places between which a line stands
 pub record Found (units : List ℕ) (ls : List (List ℕ)) (i start end : ℕ) : Type 0 where

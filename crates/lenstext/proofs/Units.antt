@@ -1,6 +1,6 @@
--- Pairs of bytes.
+-- Units of bytes.
 use Rattle.std.proofs.Common.{◌≡◌, Bool, true, false, ℕ, zero, suc, ◌+◌, ◌*◌, ◌/◌, ◌<◌, List, [], ◌∷◌, length, get_or, refl, ap, sym, ◌∙◌, arith}
-use Rattle.std.specs.Prelude.{if◌then◌else◌}
+use Rattle.std.specs.Prelude.{if◌then◌else◌, Result, Ok, Err, OnOk}
 use Rattle.lensmodel.specs.Files.TextLines.{pairs}
 
 pub length-pairs : (bytes : List ℕ) → length (pairs bytes) ≡ length bytes / 2
@@ -23,3 +23,7 @@ get_or-pairs (low ∷ high ∷ more) (suc k) h =
 pub units_fit : (wide : Bool) (body : List ℕ) → length body < 4294967296 → length (if wide then pairs body else body) < 4294967296
 units_fit true body h = omega (arith, length-pairs body)
 units_fit false body h = h
+
+pub on_ok_by : {T E X : Type 0} (r : Result T E) → X → OnOk r X
+on_ok_by (Ok t) x = x
+on_ok_by (Err e) x = tt

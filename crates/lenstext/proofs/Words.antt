@@ -130,6 +130,19 @@ pub cut_words : (line : List ℕ) → map (λ (r : ℕ × ℕ). slice_range line
 unfolding word_ranges words
 cut_words line = cuts line 0 (pieces line) (stands line line 0 refl)
 
+cut_from : (line : List ℕ) (at : ℕ) → map (λ (r : ℕ × ℕ). slice_range line r.0 r.1) (ranges_from at line) ≡ words (drop at line)
+unfolding ranges_from words
+cut_from line at = cuts line at (pieces (drop at line)) (stands line (drop at line) at refl)
+
+pub no_word : (line : List ℕ) → ranges_from 0 line ≡ [] → words line ≡ []
+no_word line e = sym (cut_from line 0) ∙ ap (map (λ (r : ℕ × ℕ). slice_range line r.0 r.1)) e
+
+pub first_word : (line : List ℕ) (start end : ℕ) → ranges_from 0 line ≡ (start, end) ∷ ranges_from end line → words line ≡ slice_range line start end ∷ words (drop end line)
+first_word line start end e =
+    sym (cut_from line 0)
+    ∙ ap (map (λ (r : ℕ × ℕ). slice_range line r.0 r.1)) e
+    ∙ ap (λ (ws : List (List ℕ)). slice_range line start end ∷ ws) (cut_from line end)
+
 -- the first 64 ranges, when there are no more, and when there are that many
 pub all_ranges : (line : List ℕ) (out rest : List (ℕ × ℕ)) → out ++ rest ≡ word_ranges line → rest ≡ [] → length out ≤ 64 → out ≡ take 64 (word_ranges line)
 all_ranges line out rest e none h =

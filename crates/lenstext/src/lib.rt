@@ -2,7 +2,8 @@
 #![tactic(auto)]
 
 mod line;
-mod source;
 #[cfg(test)]
 mod tests;
 pub mod text;
+mod unit;
+pub mod word;

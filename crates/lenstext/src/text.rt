@@ -1,13 +1,14 @@
 //! The lines of a file, and their words.
 
-ghost use Rattle.std.specs.Prelude.{◌≡◌, ◌≢◌, ◌+◌, ◌<◌, ◌≤◌, Ok, Err, None, Some, [], ◌∷◌, ◌++◌, length, drop, take, map, slice_range, slice_index_or, IfOk, IfErr, OnOk, vec_len};
+ghost use Rattle.std.specs.Prelude.{◌≡◌, ◌≢◌, ◌^◌, ◌<◌, ◌≤◌, Ok, Err, None, Some, [], length, take, map, slice_range, slice_index_or, IfOk, IfErr, OnOk};
 ghost use Rattle.std.specs.List.{All};
-ghost use Rattle.lensmodel.specs.Files.TextLines.{text, lines, words, line_fault, first_line_fault};
-ghost use Rattle.lenstext.specs.Cuts.{start_of};
+ghost use Rattle.lensmodel.specs.Files.TextLines.{text, lines, words, first_line_fault};
+ghost use Rattle.lenstext.specs.Cuts.{cut, start_of, Fits};
 ghost use Rattle.lenstext.specs.Ranges.{word_ranges};
 
-use crate::line::{check_line, next_word};
-use crate::source::Source;
+use crate::line::{check_line, line_end};
+use crate::unit::read_units;
+use crate::word::next_word;
 use arrayvec::ArrayVec;
 use lensmodel::fault::TextFault;
 use std::alloc::Global;
@@ -16,7 +17,9 @@ use std::marker::Model;
 /// The lines of a file, fewer than 2^32, each of at most 4,096 units and without its line feed.
 #[derive(Drop)]
 pub struct Text {
+    /// All units of the file, line feeds among them.
     units: Vec<u16>,
+    /// Where each line ends.
     ends: Vec<u32>,
 }
 
@@ -44,45 +47,30 @@ pub fn decode(alloc: Global, bytes: &[u8]) -> Result<Text, TextFault>
     // Each fault, and only where it stands.
     ensures fault { IfErr result (λ f. f ≢ TextFault.Memory → text bytes.now ≡ Err f) }
 {
-    let source = Source::open(bytes)?;
-    let feeds = source.line_feeds();
-    let mut units = Vec::with_capacity(alloc, source.len() - feeds).map_err(|_| TextFault::Memory)?;
-    let mut ends = Vec::with_capacity(alloc, feeds + 1).map_err(|_| TextFault::Memory)?;
-    let mut start = 0;
-    while start < source.len() {
-        let end = push_line(&source, start, &mut units, &mut ends)?;
-        start = end + 1;
-    }
+    let units = read_units(alloc, bytes)?;
+    let ends = line_ends(alloc, &units)?;
     Ok(Text { units, ends })
 }
 
-/// Appends the line that begins at `start`, and says where it ends.
-fn push_line(
-    source: &Source<'_>,
-    start: usize,
-    units: &mut Vec<u16>,
-    ends: &mut Vec<u32>,
-) -> Result<usize, TextFault>
-    requires start { start < length source.now }
-    requires small { length source.now < 4294967296 }
-    requires units { vec_len units.old ≤ start }
-    requires ends { vec_len ends.old ≤ start }
-    ensures after { IfOk result (λ end. start ≤ end) }
-    ensures within { IfOk result (λ end. end ≤ length source.now) }
-    ensures copied { IfOk result (λ end. units.new.items ≡ units.old.items ++ slice_range source.now start end) }
-    ensures ended { OnOk result (ends.new.items ≡ ends.old.items ++ vec_len units.new ∷ []) }
-    ensures line { IfOk result (λ end. lines (drop start source.now)
-        ≡ slice_range source.now start end ∷ lines (drop (end + 1) source.now)) }
-    ensures sound { IfOk result (λ end. line_fault (vec_len ends.old + 1) (slice_range source.now start end) ≡ None) }
+/// Where each line ends.
+fn line_ends(alloc: Global, units: &[u16]) -> Result<Vec<u32>, TextFault>
+    requires { length units.now < 2 ^ 32 }
+    ensures lines { IfOk result (λ ends. cut 0 units.now ends.items ≡ lines units.now) }
+    ensures shape { IfOk result (λ ends. Fits 0 (length units.now) ends.items) }
+    ensures few { IfOk result (λ ends. length ends.items < 2 ^ 32) }
+    ensures sound { OnOk result (first_line_fault 1 (lines units.now) ≡ None) }
     ensures fault { IfErr result (λ f. f ≢ TextFault.Memory
-        → first_line_fault (vec_len ends.old + 1) (lines (drop start source.now)) ≡ Some f) }
+        → first_line_fault 1 (lines units.now) ≡ Some f) }
 {
-    let from = units.len();
-    let end = source.copy_line(start, units)?;
-    check_line(&units[from..], ends.len() as u32 + 1)?;
-    ends.push(units.len() as u32)
-        .map_err(|_| TextFault::Memory)?;
-    Ok(end)
+    let mut ends = Vec::new(alloc);
+    let mut start = 0;
+    while start < units.len() {
+        let end = line_end(units, start);
+        check_line(&units[start..end], ends.len() as u32 + 1)?;
+        ends.push(end as u32).map_err(|_| TextFault::Memory)?;
+        start = end + 1;
+    }
+    Ok(ends)
 }
 
 /// Where line `i` starts, from where each line ends.
@@ -90,7 +78,7 @@ fn start_of_line(ends: &[u32], i: usize) -> usize
     requires { i < length ends.now }
     ensures { result ≡ start_of 0 ends.now i }
 {
-    if i == 0 { 0 } else { ends[i - 1] as usize }
+    if i == 0 { 0 } else { ends[i - 1] as usize + 1 }
 }
 
 impl Text {

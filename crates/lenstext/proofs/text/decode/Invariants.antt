@@ -1,9 +1,0 @@
-use Rattle.std.proofs.Common.{◌+◌, ◌-◌, length}
-use Rattle.lenstext.proofs.Cutting.{Kept}
-use Rattle.lenstext.proofs.text.decode.Given as goal
-
-abbrev pub invariant-loop-start : goal.invariant-loop-start
-invariant-loop-start l = Kept l.source l.units.items l.ends.items l.start
-
-abbrev pub decreases-loop-start : goal.decreases-loop-start
-decreases-loop-start l = length l.source + 1 - l.start
