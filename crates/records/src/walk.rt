@@ -5,7 +5,6 @@ ghost use Rattle.lensmodel.specs.Files.Records.{Words, first_offence};
 ghost use Rattle.records.specs.Remarks.{each_line};
 
 use crate::line::Line;
-use arrayvec::ArrayVec;
 use lenstext::text::Text;
 
 /// What is read from a file line by line. A line is its list of words.
@@ -47,10 +46,9 @@ pub fn read_lines<R: LineReader>(text: &Text, reader: &mut R) -> Result<(), R::F
     ensures fault { IfErr result (λ f. R.IsOfLines f
         → first_offence (R.offence reader.old) 1 [] (each_line R.REMARKS text.now) ≡ Some f) }
 {
-    let mut ranges = ArrayVec::new();
     for i in 0..text.count() {
-        text.words(i, &mut ranges);
-        let line = Line::new(text, i, &ranges, R::REMARKS);
+        let units = text.line(i);
+        let line = Line::new(units, R::REMARKS);
         reader.take(i as u32 + 1, &line)?;
     }
     Ok(())

@@ -1,4 +1,4 @@
-use Rattle.std.proofs.Common.{◌≡◌, List, [], ◌+◌, ◌<◌, length, take, subst, ◌∙◌, arith}
+use Rattle.std.proofs.Common.{◌≡◌, ℕ, List, [], ◌+◌, ◌<◌, length, take, subst, ◌∙◌, arith}
 use Rattle.std.specs.Prelude.{slice_index_or, Some, None}
 use Rattle.std.proofs.lemmas.Result.{err_from_is_err_and}
 use Rattle.lensmodel.specs.Files.Records.{Words}
@@ -13,7 +13,7 @@ loop-i-preserved g c =
     let lines = c.args.text.now in
     let below : c.loop-i.i < length lines = omega arith in
     let is : c.new-line.result ≡ line_words r.REMARKS (slice_index_or lines c.loop-i.i []) =
-    words_along c.REMARKS.result r.REMARKS (slice_index_or lines c.loop-i.i []) c.new-line.result c.REMARKS.ensures c.new-line.ensures in
+    words_along c.REMARKS.result r.REMARKS (slice_index_or lines c.loop-i.i []) c.new-line.result c.REMARKS.ensures (subst (λ (units : List ℕ). c.new-line.result ≡ line_words c.REMARKS.result units) c.line-units.ensures.line c.new-line.ensures) in
     let o = r.offence c.args.reader.now in
     let p = c.in_ok-take.ensures.passed (take c.loop-i.i (each_line r.REMARKS lines)) k.at in
     record {
@@ -31,7 +31,7 @@ returns-in_err-take-clause-fault g c =
     let lines = c.args.text.now in
     let below : c.loop-i.i < length lines = omega arith in
     let is : c.new-line.result ≡ line_words r.REMARKS (slice_index_or lines c.loop-i.i []) =
-    words_along c.REMARKS.result r.REMARKS (slice_index_or lines c.loop-i.i []) c.new-line.result c.REMARKS.ensures c.new-line.ensures in
+    words_along c.REMARKS.result r.REMARKS (slice_index_or lines c.loop-i.i []) c.new-line.result c.REMARKS.ensures (subst (λ (units : List ℕ). c.new-line.result ≡ line_words c.REMARKS.result units) c.line-units.ensures.line c.new-line.ensures) in
     let p = err_from_is_err_and c.from_residual.result c.from_residual.ensures.1 in
     rw (p.1, p.2)
     (λ own. offends (r.offence c.args.reader.now) r.REMARKS lines c.loop-i.i c.new-line.result c.in_err-take.field-0.0 below is k.sound
