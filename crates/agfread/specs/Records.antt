@@ -9,9 +9,9 @@ use Rattle.lensmodel.specs.declared.fault.AgfFault.{AgfFault}
 use Rattle.lensmodel.specs.declared.fault.AgfFault.TheVariants.{BadNumber}
 use Rattle.lensmodel.specs.declared.glass.Glass.{Glass}
 
--- the fault of a word, counted from 0, that is there and isn't a decimal
+-- the fault of the first of some words, which is the one at k of its line, from 0, where it is there and isn't a decimal
 abbrev pub word_fault : ℕ → ℕ → Words → Option AgfFault
-word_fault n k line = if has_word k line then bad_unless (decimal_of (word_at k line)) (BadNumber n (suc k)) else None
+word_fault n k ws = if has_word 0 ws then bad_unless (decimal_of (word_at 0 ws)) (BadNumber n (suc k)) else None
 
 -- a glass with the coefficients of a CD line
 abbrev pub with_coefficients : Words → Glass → Glass

@@ -1,9 +1,8 @@
 //! The glass of a record.
 
-ghost use Rattle.std.specs.Prelude.{◌≡◌, ◌≤◌, ◌<◌, [], Some, None, length, IfOk, IfErr, OnOk};
-ghost use Rattle.fixdec.specs.Reading.{decimal_of};
+ghost use Rattle.std.specs.Prelude.{◌≡◌, ◌≤◌, ◌<◌, [], Some, None, drop, length, IfOk, IfErr, OnOk};
 ghost use Rattle.lensmodel.specs.Files.Catalogue.{glass_of, NM_fault, CD_fault, LD_fault};
-ghost use Rattle.lensmodel.specs.Files.Records.{word_at, decimal_or_0};
+ghost use Rattle.lensmodel.specs.Files.Records.{decimal_at};
 ghost use Rattle.lensmodel.specs.Setup.Values.{zero_decimal};
 ghost use Rattle.agfread.specs.Records.{word_fault, used_CD_fault, with_CD, with_coefficients, with_bounds};
 
@@ -14,6 +13,7 @@ use lensmodel::glass::Glass;
 use lensmodel::name::Name;
 use records::line::Line;
 use records::number::BadNumber;
+use records::tail::Tail;
 
 /// The glass that an NM line begins, the one after `seen` others.
 pub fn begun(line: &Line<'_>, at: u32, seen: u32) -> Result<Glass, AgfFault>
@@ -43,14 +43,16 @@ fn in_line(at: u32, bad: BadNumber) -> AgfFault
     }
 }
 
-/// The coefficient at the word `k`, from 0, which is 0 where the line has no such word.
-fn coefficient(line: &Line<'_>, at: u32, k: usize) -> Result<Dec, AgfFault>
+/// The coefficient that the next word gives, the one at `k` of its line, from 0. It is 0 where no
+/// word is left.
+fn coefficient(words: &mut Tail<'_>, at: u32, k: usize) -> Result<Dec, AgfFault>
     requires { k < 64 }
-    ensures value { IfOk result (λ d. d ≡ decimal_or_0 (decimal_of (word_at k line.now))) }
-    ensures sound { OnOk result (word_fault at k line.now ≡ None) }
-    ensures fault { IfErr result (λ f. word_fault at k line.now ≡ Some f) }
+    ensures value { IfOk result (λ d. d ≡ decimal_at 0 words.old) }
+    ensures left { words.new ≡ drop 1 words.old }
+    ensures sound { OnOk result (word_fault at k words.old ≡ None) }
+    ensures fault { IfErr result (λ f. word_fault at k words.old ≡ Some f) }
 {
-    line.number_or_0(k).map_err(|bad| in_line(at, bad))
+    words.take_number_or_0(k).map_err(|bad| in_line(at, bad))
 }
 
 /// A glass without coefficients and bounds.
@@ -92,12 +94,13 @@ fn set_coefficients(glass: &mut Glass, line: &Line<'_>, at: u32) -> Result<(), A
     ensures sound { OnOk result (CD_fault at line.now ≡ None) }
     ensures fault { IfErr result (λ f. CD_fault at line.now ≡ Some f) }
 {
-    let c0 = coefficient(line, at, 1)?;
-    let c1 = coefficient(line, at, 2)?;
-    let c2 = coefficient(line, at, 3)?;
-    let c3 = coefficient(line, at, 4)?;
-    let c4 = coefficient(line, at, 5)?;
-    let c5 = coefficient(line, at, 6)?;
+    let mut words = line.behind_first();
+    let c0 = coefficient(&mut words, at, 1)?;
+    let c1 = coefficient(&mut words, at, 2)?;
+    let c2 = coefficient(&mut words, at, 3)?;
+    let c3 = coefficient(&mut words, at, 4)?;
+    let c4 = coefficient(&mut words, at, 5)?;
+    let c5 = coefficient(&mut words, at, 6)?;
     glass.c0 = c0;
     glass.c1 = c1;
     glass.c2 = c2;

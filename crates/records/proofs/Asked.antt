@@ -3,18 +3,13 @@ use Rattle.std.proofs.Common.{◌≡◌, ℕ, zero, suc, ◌+◌, ◌<◌, ◌�
 use Rattle.std.specs.Prelude.{Option, Some, None, MatchOption, IsSome, IsTrue, is_some}
 use Rattle.lensmodel.specs.Files.Records.{Words, word_at}
 use Rattle.records.specs.Words.{has_word, IsFirst}
-use Rattle.records.specs.WordLaws.{has_word-below}
+use Rattle.records.specs.WordLaws.{has_word-below, word_at-drop}
 
 -- ---- the words behind some others
 has_word-drop : (k : ℕ) (ws : Words) → has_word 0 (drop k ws) ≡ has_word k ws
 has_word-drop zero ws = refl
 has_word-drop (suc k) [] = refl
 has_word-drop (suc k) (w ∷ ws) = has_word-drop k ws
-
-word_at-drop : (k : ℕ) (ws : Words) → word_at 0 (drop k ws) ≡ word_at k ws
-word_at-drop zero ws = refl
-word_at-drop (suc k) [] = refl
-word_at-drop (suc k) (w ∷ ws) = word_at-drop k ws
 
 -- one word more is passed over
 pub behind : (i : ℕ) (all rest more : Words) (w : List ℕ) → rest ≡ drop i all → rest ≡ w ∷ more → more ≡ drop (i + 1) all

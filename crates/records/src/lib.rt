@@ -5,6 +5,7 @@
 pub mod line;
 pub mod number;
 mod table;
+pub mod tail;
 #[cfg(test)]
 mod tests;
 pub mod walk;

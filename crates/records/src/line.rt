@@ -1,11 +1,12 @@
 //! A line and its words.
 
-ghost use Rattle.std.specs.Prelude.{◌≡◌, ◌≢◌, ◌<◌, ◌-◌, ◌↔◌, IsTrue, false, true, [], length, MatchOption};
+ghost use Rattle.std.specs.Prelude.{◌≡◌, ◌≢◌, ◌<◌, ◌-◌, ◌↔◌, IsTrue, false, true, [], drop, length, MatchOption};
 ghost use Rattle.lensmodel.specs.Files.Records.{word_at, has_tag as begins_with, is_remark as has_mark};
 ghost use Rattle.lensmodel.specs.Files.TextLines.{words};
 ghost use Rattle.records.specs.Remarks.{line_words};
 ghost use Rattle.records.specs.Words.{has_word};
 
+use crate::tail::Tail;
 use crate::word::is_word;
 use lenstext::word::split_word;
 use std::marker::Model;
@@ -124,6 +125,15 @@ impl<'a> Line<'a> {
         ensures { IsTrue result ↔ k < length self.now }
     {
         nth_word(self.units, k).is_some()
+    }
+
+    /// The words behind the line's first.
+    pub fn behind_first(&self) -> Tail<'a>
+        ensures { result ≡ drop 1 self.now }
+    {
+        let mut words = Tail::new(self.units);
+        let _first = words.take_word();
+        words
     }
 
     /// The first word, where the line has one.

@@ -1,9 +1,8 @@
 //! Numbers among the words of a line.
 
-ghost use Rattle.std.specs.Prelude.{◌≡◌, ◌<◌, ◌+◌, ◌↔◌, IsTrue, IsSome, Some, None, true, false, length, IfOk, IfErr, OnOk, OnErr};
+ghost use Rattle.std.specs.Prelude.{◌≡◌, ◌<◌, ◌+◌, ◌↔◌, IsTrue, IsSome, Some, None, length, IfOk, IfErr, OnOk, OnErr};
 ghost use Rattle.fixdec.specs.Reading.{decimal_of};
-ghost use Rattle.lensmodel.specs.Files.Records.{whole_at, word_at, decimal_or_0, number_to, whole_word};
-ghost use Rattle.records.specs.Numbers.{is_bad};
+ghost use Rattle.lensmodel.specs.Files.Records.{whole_at, word_at, number_to, whole_word};
 
 use crate::line::Line;
 use exactdec::read::read;
@@ -63,20 +62,6 @@ impl Line<'_> {
         decimal(self.known_word(k)).ok_or(bad_number(k))
     }
 
-    /// The decimal of the word at `k`, from 0, which is 0 where the line has no such word.
-    pub fn number_or_0(&self, k: usize) -> Result<Dec, BadNumber>
-        requires { k < 64 }
-        ensures number { IfOk result (λ d. d ≡ decimal_or_0 (decimal_of (word_at k self.now))) }
-        ensures good { OnOk result (is_bad k self.now ≡ false) }
-        ensures bad { OnErr result (is_bad k self.now ≡ true) }
-        ensures place { IfErr result (λ f. f.word ≡ k + 1) }
-    {
-        match self.word(k) {
-            Some(word) => decimal(word).ok_or(bad_number(k)),
-            None => Ok(Dec::default()),
-        }
-    }
-
     /// The whole number from 0 to `most` that is the value of the word at `k`, from 0, of a line
     /// that has it.
     pub fn whole(&self, k: usize, most: u32) -> Result<u32, BadNumber>
@@ -91,7 +76,8 @@ impl Line<'_> {
     }
 }
 
-fn bad_number(k: usize) -> BadNumber
+/// The fault of the word at `k`, from 0.
+pub(crate) fn bad_number(k: usize) -> BadNumber
     requires { k < 64 }
     ensures { result.word ≡ k + 1 }
 {
