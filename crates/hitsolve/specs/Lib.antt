@@ -12,4 +12,5 @@ pub mod Samples
 pub mod StandardChains
 pub mod StandardCloseness
 pub mod StandardCrossings
+pub mod Used
 pub mod Values

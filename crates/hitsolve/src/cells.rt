@@ -1,15 +1,18 @@
 //! The cells of a window of z in which a line may meet an even asphere. They run in plain intervals.
 #![tactic(auto, unfolding(fixdec::specs::IntervalOperations::operations))]
 
-ghost use Rattle.std.specs.Prelude.{◌≡◌, ℕ, ℤ, pos, neg_ℤ, ◌≤◌, ◌≤ℤ◌};
+ghost use Rattle.std.specs.Prelude.{◌≡◌, ℕ, ℤ, pos, neg_ℤ, ◌≤◌, ◌≤ℤ◌, IsTrue};
+ghost use Rattle.enclose.specs.Zeros.{LeavesZero, single};
 ghost use Rattle.fixdec.specs.Ends.{InCap};
 ghost use Rattle.fixdec.specs.IntervalOperations.{operations};
 ghost use Rattle.fixdec.specs.Scaled.{dec_span};
+ghost use Rattle.fixdec.specs.declared.step.Step.TheVariants.{Val};
 ghost use Rattle.lensmodel.specs.Rows.Cells as rows;
 ghost use Rattle.lensmodel.specs.Rows.Crossing as crossing;
 ghost use Rattle.lensmodel.specs.Rows.Sag as sags;
 ghost use Rattle.hitsolve.specs.CellValues as values;
 ghost use Rattle.hitsolve.specs.CellValues.{AreOrdered};
+ghost use Rattle.hitsolve.specs.Used.{AreNoneFrom};
 ghost use Rattle.sagform.specs.Polynomials as polynomials;
 
 use crate::line::Line;
@@ -37,6 +40,8 @@ pub(crate) struct Cells {
     ck: Span,
     norm: i32,
     b: Terms<Span>,
+    // past this many of `b` each is the span of 0
+    used: usize,
     zone2: Span,
     line: Line<Span>,
 }
@@ -49,7 +54,27 @@ impl Model for Cells {
     ghost invariant = { λ k. (k.scale ≤ 15)
         × (k.one ≡ dec_span k.scale (record { mant = pos 1; exp = pos 0 })) × InCap k.e
         × (neg_ℤ (pos 6) ≤ℤ k.norm) × (k.norm ≤ℤ pos 6)
-        × AreOrdered (values.values_of k.scale k.e k.c k.ck k.norm k.b k.zone2 k.line) };
+        × AreOrdered (values.values_of k.scale k.e k.c k.ck k.norm k.b k.zone2 k.line)
+        × AreNoneFrom k.used k.b };
+}
+
+/// Whether a span is that of 0.
+fn is_zero(a: Span) -> bool
+    ensures { IsTrue result → a ≡ single (pos 0) }
+{
+    a.lo == 0 && a.hi == 0
+}
+
+/// How many spans there are up to the last that isn't that of 0.
+fn used_of(b: &Terms<Span>) -> usize
+    ensures { AreNoneFrom result b.now }
+{
+    let all = [b.b1, b.b2, b.b3, b.b4, b.b5, b.b6, b.b7, b.b8];
+    let mut used = all.len();
+    while 0 < used && is_zero(all[used - 1]) {
+        used -= 1;
+    }
+    used
 }
 
 /// What the cells of a surface and a line use.
@@ -59,6 +84,8 @@ pub(crate) fn cells_of<T: Arith>(f: &Face<T>, line: Line<T>, e: i128) -> Cells
     requires high { InCap e }
     ensures { result ≡ values.cell_values T.ops T.SCALE f.now line e }
 {
+    let b = hulls(&even_terms(f));
+    let used = used_of(&b);
     Cells {
         scale: T::SCALE,
         one: scale::span(&Dec { mant: 1, exp: 0 }, T::SCALE),
@@ -66,7 +93,8 @@ pub(crate) fn cells_of<T: Arith>(f: &Face<T>, line: Line<T>, e: i128) -> Cells
         c: f.c().hull(),
         ck: f.ck().hull(),
         norm: f.norm(),
-        b: hulls(&even_terms(f)),
+        b,
+        used,
         zone2: zone2_of(f),
         line: Line {
             x0: line.x0.hull(),
@@ -118,18 +146,43 @@ fn term(scale: u32, b: Span, u: Span, v: Span) -> Step<Span>
     iv_plus(scale, b, val!(iv_times(scale, u, v)))
 }
 
-/// V1 of the even terms, from the last coefficient down.
+/// A fact for proofs, without work: the span times 0 is 0, and plus 0 is the span.
+#[inline(always)]
+fn leaves_zero(_scale: u32, a: Span)
+    ensures { LeavesZero (operations _scale) a }
+{
+    let _lo = a.lo; // so that its ends are known to be within the cap
+}
+
+/// `b + (u*v)`: coefficient `i`, and the value behind it, which is 0 unless more than `i`
+/// coefficients are in use. Only then is anything computed.
+fn term_at(scale: u32, used: usize, i: usize, b: Span, u: Span, v: Span) -> Step<Span>
+    requires scale { scale ≤ 15 }
+    requires zero { used ≤ i → v ≡ single (pos 0) }
+    ensures value { result ≡ polynomials.term_row (operations scale) scale b u v }
+    ensures same { used ≤ i → result ≡ Val b }
+{
+    if used <= i {
+        leaves_zero(scale, b);
+        leaves_zero(scale, u);
+        Step::Val(b)
+    } else {
+        term(scale, b, u, v)
+    }
+}
+
+/// V1 of the even terms, from the last coefficient in use down.
 fn last_value(k: &Cells, u: Span) -> Step<Span>
     ensures { result ≡ polynomials.last_value (operations k.now.scale) k.now.scale u k.now.face.b }
 {
     let b = &k.b;
-    let v7 = val!(term(k.scale, b.b7, u, b.b8));
-    let v6 = val!(term(k.scale, b.b6, u, v7));
-    let v5 = val!(term(k.scale, b.b5, u, v6));
-    let v4 = val!(term(k.scale, b.b4, u, v5));
-    let v3 = val!(term(k.scale, b.b3, u, v4));
-    let v2 = val!(term(k.scale, b.b2, u, v3));
-    term(k.scale, b.b1, u, v2)
+    let v7 = val!(term_at(k.scale, k.used, 7, b.b7, u, b.b8));
+    let v6 = val!(term_at(k.scale, k.used, 6, b.b6, u, v7));
+    let v5 = val!(term_at(k.scale, k.used, 5, b.b5, u, v6));
+    let v4 = val!(term_at(k.scale, k.used, 4, b.b4, u, v5));
+    let v3 = val!(term_at(k.scale, k.used, 3, b.b3, u, v4));
+    let v2 = val!(term_at(k.scale, k.used, 2, b.b2, u, v3));
+    term_at(k.scale, k.used, 1, b.b1, u, v2)
 }
 
 /// V1 of the even terms.

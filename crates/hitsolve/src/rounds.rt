@@ -3,9 +3,11 @@
 ghost use Rattle.std.specs.Prelude.{◌≡◌, ℤ, pos, ◌≤◌, ◌≤ℤ◌};
 ghost use Rattle.fixdec.specs.Ends.{InCap};
 ghost use Rattle.hitsolve.specs.Narrowed.{steepness_row, error_row};
+ghost use Rattle.hitsolve.specs.Values.{IfVal};
 ghost use Rattle.lensmodel.specs.Rows.Sag as sags;
 ghost use Rattle.lensmodel.specs.Rows.SlopeRounds as rows;
 ghost use Rattle.lensmodel.specs.Rows.Spans.{middle, up_to};
+ghost use Rattle.sagform.specs.Used.{AreZeroFrom};
 
 use crate::line::{Line, along, rho_at};
 use crate::terms::{Terms, even_terms, quotient, values};
@@ -214,13 +216,16 @@ fn sum<T: Arith>(zc: T, u: T, v: T) -> Step<T>
     zc.plus(val!(u.times(v)))
 }
 
-/// The sag at the middle: `S* = zc* + (u* * V1*)`.
-fn sag_at<T: Arith>(f: &Face<T>, u: T, zc: T) -> Step<MidSag<T>>
-    requires { T.SCALE ≤ 15 }
-    ensures { result ≡ rows.mid_sag_rows T.ops T.SCALE f.now u zc }
+/// The sag at the middle: `S* = zc* + (u* * V1*)`. Past `used` each coefficient is zero, and so is
+/// each value.
+fn sag_at<T: Arith>(f: &Face<T>, used: usize, u: T, zc: T) -> Step<MidSag<T>>
+    requires scale { T.SCALE ≤ 15 }
+    requires zero { AreZeroFrom T.ops used f.now.b }
+    ensures value { result ≡ rows.mid_sag_rows T.ops T.SCALE f.now u zc }
+    ensures zero { IfVal result (λ mid. AreZeroFrom T.ops used mid.values) }
 {
     let b = even_terms(f);
-    let values = val!(values(&b, u));
+    let values = val!(values(&b, used, u));
     let sag = val!(sum(zc, u, values.b1));
     Step::Val(MidSag { sag, values })
 }
@@ -289,8 +294,9 @@ fn round_over<T: Arith>(f: &Face<T>, line: Line<T>, e: i128, a: Span) -> Step<Ro
     let conic = val!(conic_at(f, at.mid_rho, e));
     let u = val!(at.rho.shift(f.norm()));
     let mid_u = val!(at.mid_rho.shift(f.norm()));
-    let mid = val!(sag_at(f, mid_u, conic.sag));
-    let q0 = val!(quotient(&mid.values, u));
+    let used = f.used();
+    let mid = val!(sag_at(f, used, mid_u, conic.sag));
+    let q0 = val!(quotient(&mid.values, used, u));
     let slope = val!(slope_of(f, line, at, w, conic.w, q0));
     Step::Val(Round {
         middle: middle_value::<T>(a),

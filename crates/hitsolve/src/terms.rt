@@ -2,15 +2,17 @@
 
 ghost use Rattle.std.specs.Prelude.{◌≡◌, ◌≤◌, List, [], ◌∷◌, map};
 ghost use Rattle.hitsolve.specs.Quotients as quotients;
+ghost use Rattle.hitsolve.specs.Values.{IfVal};
 ghost use Rattle.lensmodel.specs.Rows.Sag as sags;
 ghost use Rattle.lensmodel.specs.Rows.SlopeRounds as rows;
-ghost use Rattle.sagform.specs.Polynomials as polynomials;
+ghost use Rattle.sagform.specs.Used.{AreZeroFrom};
 
 use enclose::arith::Arith;
 use fixdec::span::Span;
 use fixdec::step::Step;
 use fixdec::val;
 use sagform::face::Face;
+use sagform::sag::term_at;
 use std::marker::Model;
 
 /// Eight values that belong to the even terms of a surface, from the term in `u` to that in `u^8`.
@@ -66,27 +68,21 @@ pub(crate) fn hulls<T: Arith>(b: &Terms<T>) -> Terms<Span>
     }
 }
 
-/// `b + (u*v)`.
-fn term<T: Arith>(b: T, u: T, v: T) -> Step<T>
-    requires { T.SCALE ≤ 15 }
-    ensures { result ≡ polynomials.term_row T.ops T.SCALE b u v }
-{
-    b.plus(val!(u.times(v)))
-}
-
-/// V8 down to V1, once V8 is known.
-fn values_down<T: Arith>(b: &Terms<T>, u: T) -> Step<Terms<T>>
-    requires { T.SCALE ≤ 15 }
-    ensures { result ≡ quotients.values_down T.ops T.SCALE u b.now }
+/// V8 down to V1, once V8 is known. Past `used` each coefficient is zero, and so is each value.
+fn values_down<T: Arith>(b: &Terms<T>, used: usize, u: T) -> Step<Terms<T>>
+    requires scale { T.SCALE ≤ 15 }
+    requires zero { AreZeroFrom T.ops used b.now }
+    ensures value { result ≡ quotients.values_down T.ops T.SCALE u b.now }
+    ensures zero { IfVal result (λ vs. AreZeroFrom T.ops used vs) }
 {
     let b8 = b.b8;
-    let b7 = val!(term(b.b7, u, b8));
-    let b6 = val!(term(b.b6, u, b7));
-    let b5 = val!(term(b.b5, u, b6));
-    let b4 = val!(term(b.b4, u, b5));
-    let b3 = val!(term(b.b3, u, b4));
-    let b2 = val!(term(b.b2, u, b3));
-    let b1 = val!(term(b.b1, u, b2));
+    let b7 = val!(term_at(used, 7, b.b7, u, b8));
+    let b6 = val!(term_at(used, 6, b.b6, u, b7));
+    let b5 = val!(term_at(used, 5, b.b5, u, b6));
+    let b4 = val!(term_at(used, 4, b.b4, u, b5));
+    let b3 = val!(term_at(used, 3, b.b3, u, b4));
+    let b2 = val!(term_at(used, 2, b.b2, u, b3));
+    let b1 = val!(term_at(used, 1, b.b1, u, b2));
     Step::Val(Terms {
         b1,
         b2,
@@ -99,25 +95,28 @@ fn values_down<T: Arith>(b: &Terms<T>, u: T) -> Step<Terms<T>>
     })
 }
 
-/// `V8 = b8`, `Vi = bi + (u*V(i+1))`.
-pub(crate) fn values<T: Arith>(b: &Terms<T>, u: T) -> Step<Terms<T>>
-    requires { T.SCALE ≤ 15 }
-    ensures { result ≡ sags.horner_rows T.ops u b.now }
+/// `V8 = b8`, `Vi = bi + (u*V(i+1))`. Past `used` each coefficient is zero, and so is each value.
+pub(crate) fn values<T: Arith>(b: &Terms<T>, used: usize, u: T) -> Step<Terms<T>>
+    requires scale { T.SCALE ≤ 15 }
+    requires zero { AreZeroFrom T.ops used b.now }
+    ensures value { result ≡ sags.horner_rows T.ops u b.now }
+    ensures zero { IfVal result (λ vs. AreZeroFrom T.ops used vs) }
 {
-    values_down(b, u)
+    values_down(b, used, u)
 }
 
 /// `Q7 = V8`, `Qi = V(i+1) + (u*Q(i+1))`: the value Q0, by which the polynomial at `u` differs from
-/// that at the place of the values V.
-pub(crate) fn quotient<T: Arith>(v: &Terms<T>, u: T) -> Step<T>
-    requires { T.SCALE ≤ 15 }
+/// that at the place of the values V. Past `used` each value is zero.
+pub(crate) fn quotient<T: Arith>(v: &Terms<T>, used: usize, u: T) -> Step<T>
+    requires scale { T.SCALE ≤ 15 }
+    requires zero { AreZeroFrom T.ops used v.now }
     ensures { result ≡ rows.quotient_row T.ops T.SCALE u v.now }
 {
-    let q6 = val!(term(v.b7, u, v.b8));
-    let q5 = val!(term(v.b6, u, q6));
-    let q4 = val!(term(v.b5, u, q5));
-    let q3 = val!(term(v.b4, u, q4));
-    let q2 = val!(term(v.b3, u, q3));
-    let q1 = val!(term(v.b2, u, q2));
-    term(v.b1, u, q1)
+    let q6 = val!(term_at(used, 7, v.b7, u, v.b8));
+    let q5 = val!(term_at(used, 6, v.b6, u, q6));
+    let q4 = val!(term_at(used, 5, v.b5, u, q5));
+    let q3 = val!(term_at(used, 4, v.b4, u, q4));
+    let q2 = val!(term_at(used, 3, v.b3, u, q3));
+    let q1 = val!(term_at(used, 2, v.b2, u, q2));
+    term_at(used, 1, v.b1, u, q1)
 }
