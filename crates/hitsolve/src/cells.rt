@@ -237,7 +237,8 @@ fn sags_over(k: &Cells, z: Span) -> Step<Span>
 
 /// The sags over an interval of z, widened.
 fn cell(k: &Cells, z: Span) -> Step<Span>
-    ensures value { result ≡ rows.cell_rows k.now.scale k.now.face k.now.zone2 k.now.line k.now.e z }
+    ensures value { result
+        ≡ rows.cell_rows k.now.scale k.now.face k.now.zone2 k.now.line k.now.e z }
     ensures ordered { AreOrdered k.now }
 {
     sags_over(k, z)

@@ -175,7 +175,8 @@ pub fn meet<T: Arith>(f: &Face<T>, x0: T, y0: T, p: T, q: T, e: i128) -> Step<T>
     requires scale { T.SCALE ≤ 15 }
     requires low { pos 0 ≤ℤ e }
     requires high { InCap e }
-    ensures { result ≡ hits.meet_rows T.ops T.SCALE f.now (record { x0 = x0; y0 = y0; p = p; q = q }) e }
+    ensures { result ≡ hits.meet_rows T.ops T.SCALE f.now
+        (record { x0 = x0; y0 = y0; p = p; q = q }) e }
 {
     meet_on(f, Line { x0, y0, p, q }, e)
 }
