@@ -1,3 +1,4 @@
 pub mod JsonData
+pub mod Paraxial
 pub mod Spots
 pub mod Totals

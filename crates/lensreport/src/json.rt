@@ -3,16 +3,15 @@
 ghost use Rattle.std.specs.Prelude.{◌≡◌, ◌≤◌, IfOk, OnOk};
 ghost use Rattle.fixdec.specs.DecimalText.{fix_text};
 ghost use Rattle.lensmodel.specs.Texts.JsonRows.{json_line};
-ghost use Rattle.lensmodel.specs.Texts.Pieces.{why_text};
 ghost use Rattle.lensmodel.specs.Texts.Rows.{word_name as word_text};
 ghost use Rattle.lensreport.specs.JsonData as data_of;
 ghost use Rattle.serde_json.specs.Data.{string as json_string, array as json_array, put};
 ghost use Rattle.serde_json.specs.View.{view, members_view};
 
+use crate::pieces::why_name;
 use arrayvec::ArrayString;
 use exactdec::print::print_fix;
 use fixdec::span::Span;
-use fixdec::step::Why;
 use lensmodel::row::{Heading, Place, Row, Word};
 use serde_json::{Map, Value};
 use std::alloc::{AllocError, Global};
@@ -155,17 +154,6 @@ fn word_name(word: &Word) -> &'static str
         Word::Undecided(_, _, _) => "undecided",
         Word::Wide => "wide",
         Word::Lost(_, _) => "lost",
-    }
-}
-
-/// The name of the cause of a loss.
-fn why_name(why: Why) -> &'static str
-    ensures { result.now ≡ why_text why }
-{
-    match why {
-        Why::Root => "root",
-        Why::Zero => "zero",
-        Why::Range => "range",
     }
 }
 

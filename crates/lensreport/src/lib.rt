@@ -3,14 +3,18 @@
 #![tactic(auto)]
 
 pub mod faults;
+pub mod first;
 pub mod glass;
 pub mod index;
 pub mod json;
 #[cfg(test)]
 mod json_tests;
 pub mod lens;
+#[cfg(test)]
+mod paraxial_tests;
 pub mod pieces;
 pub mod rows;
+pub mod seidel;
 pub mod spot;
 #[cfg(test)]
 mod tests;

@@ -4,12 +4,13 @@ ghost use Rattle.std.specs.Prelude.{◌≡◌, ℕ, pos, ◌+◌, ◌≤◌, ◌
 ghost use Rattle.std.specs.Fmt.{decimal};
 ghost use Rattle.arrayvec.specs.ArrayString.{array_string_len};
 ghost use Rattle.fixdec.specs.DecimalText.{dec_text, fix_text};
-ghost use Rattle.lensmodel.specs.Texts.Pieces.{name_text, named_span, span_text, unit_byte};
+ghost use Rattle.lensmodel.specs.Texts.Pieces.{name_text, named_span, span_text, unit_byte, value_text, why_text};
 
 use arrayvec::ArrayString;
 use exactdec::print::{print_dec, print_fix};
 use fixdec::dec::Dec;
 use fixdec::span::Span;
+use fixdec::step::{Step, Why};
 use lensmodel::name::Name;
 
 /// A line of a printed text.
@@ -84,6 +85,37 @@ pub fn push_named_span(name: &str, s: Span, scale: u32, out: &mut Line)
     out.push_str(name);
     out.push_str(" ");
     push_span(s, scale, out);
+}
+
+/// The name of a cause of loss.
+pub(crate) fn why_name(why: Why) -> &'static str
+    ensures name { result.now ≡ why_text why }
+    ensures short { length result.now ≤ 5 }
+{
+    match why {
+        Why::Root => "root",
+        Why::Zero => "zero",
+        Why::Range => "range",
+    }
+}
+
+/// Appends `[a,b]`, a value at a scale from 1 to 15, or `lost` and the cause, of at most 131 bytes;
+/// nothing where it is empty.
+pub(crate) fn push_value(value: &Step<Span>, scale: u32, out: &mut Line)
+    requires room { array_string_len out.old + 131 ≤ 2048 }
+    requires low { 1 ≤ scale }
+    requires high { scale ≤ 15 }
+    ensures bytes { out.new.bytes ≡ out.old.bytes ++ value_text scale value.now }
+    ensures len { array_string_len out.new ≤ array_string_len out.old + 131 }
+{
+    match value {
+        Step::Val(span) => push_span(*span, scale, out),
+        Step::Lost(why) => {
+            out.push_str("lost ");
+            out.push_str(why_name(*why));
+        }
+        Step::Empty => {}
+    }
 }
 
 /// A unit as it is printed: from 33 to 126 as itself, and every other as `?`.

@@ -5,7 +5,7 @@ ghost use Rattle.arrayvec.specs.ArrayString.{array_string_len};
 ghost use Rattle.lensmodel.specs.Texts.Pieces as pieces;
 ghost use Rattle.lensmodel.specs.Texts.Rows as texts;
 
-use crate::pieces::{Line, push_decimal, push_named_span, push_number};
+use crate::pieces::{Line, push_decimal, push_named_span, push_number, why_name};
 use fixdec::step::Why;
 use lensmodel::row::{Heading, Place, Row, Word};
 use lensmodel::setup::Setup;
@@ -39,18 +39,6 @@ fn word_name(word: &Word) -> &'static str
         Word::Undecided(..) => "undecided",
         Word::Wide => "wide",
         Word::Lost(..) => "lost",
-    }
-}
-
-/// The name of a cause of loss.
-fn why_name(why: Why) -> &'static str
-    ensures name { result.now ≡ pieces.why_text why }
-    ensures short { length result.now ≤ 5 }
-{
-    match why {
-        Why::Root => "root",
-        Why::Zero => "zero",
-        Why::Range => "range",
     }
 }
 
