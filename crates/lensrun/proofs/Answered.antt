@@ -13,13 +13,12 @@ use Rattle.lensmodel.specs.declared.setup.Setup.{Setup}
 use Rattle.lensmodel.specs.declared.status.FileKind.{FileKind}
 use Rattle.lensmodel.specs.declared.status.Status.{Status}
 use Rattle.lensmodel.specs.declared.status.Status.TheVariants.{Done, Usage, Refused, Absent, ReadFault, TooLong, WriteFault, Memory}
-use Rattle.lensrun.specs.Due.{due_answer, IsReady, IsNoTrace, IsTraceOf, RestsOn}
+use Rattle.lensrun.specs.Due.{due_answer, IsReady, IsNoTrace, RestsOn}
 use Rattle.lensrun.specs.Found.{IsFound, Gives, GivesNone, over_file}
 use Rattle.lensrun.specs.Joined.{MakesSetup, MakesNone, IsInputFault}
 use Rattle.lensrun.specs.Promise.{IsAnswered, IsDecided, IsDueOf, IsFaultOf, OfFiles, by_name, without}
 use Rattle.lensrun.specs.declared.due.Due.{Due}
-use Rattle.lensrun.specs.declared.due.Due.TheVariants.{Line, Glasses, Lens, Trace, TraceJson, Nothing}
-use Rattle.lensrun.specs.declared.due.Tracing.{Tracing}
+use Rattle.lensrun.specs.declared.due.Due.TheVariants.{Line, Glasses, Lens, Trace, TraceJson, First, Seidel, Nothing}
 use Rattle.lensrun.proofs.Outcomes.{OfFiles-map}
 use Rattle.lensrun.proofs.Stopping.{look, look-found, given, stopped, no_report, no_write, is_nothing, fault_line}
 
@@ -52,15 +51,19 @@ no_trace-if (Glasses book) h = tt
 no_trace-if (Lens file) h = tt
 no_trace-if (Trace t) h = absurd (h refl)
 no_trace-if (TraceJson t) h = absurd (h refl)
+no_trace-if (First p) h = tt
+no_trace-if (Seidel p) h = tt
 no_trace-if Nothing h = tt
 
-pub ready-if : (due : Due) → IsNoTrace due → IsReady due
-ready-if (Line status text) h = tt
-ready-if (Glasses book) h = tt
-ready-if (Lens file) h = tt
-ready-if (Trace t) h = absurd h
-ready-if (TraceJson t) h = absurd h
-ready-if Nothing h = tt
+pub ready-no_report : (due : Due) → (due_answer due).status ≢ Done → IsReady due
+ready-no_report (Line status text) h = tt
+ready-no_report (Glasses book) h = tt
+ready-no_report (Lens file) h = tt
+ready-no_report (Trace t) h = absurd (h refl)
+ready-no_report (TraceJson t) h = absurd (h refl)
+ready-no_report (First p) h = absurd (h refl)
+ready-no_report (Seidel p) h = absurd (h refl)
+ready-no_report Nothing h = tt
 
 -- words that fit no command
 pub usage_due : (held : Option Files) (due : Due) → due_answer due ≡ answer Usage usage_line → IsDueOf held None due
@@ -70,9 +73,6 @@ usage_due held due is = plain_due held None due (subst (λ (x : Answer). IsPlain
     answered : (held : Option Files) → OfFiles held (λ files. IsAnswered files None due)
     answered None = (λ _ _. None, record { answer = is; rests = no_trace-if due (λ e. cc (sym e ∙ ap (λ (x : Answer). x.status) is)) })
     answered (Some files) = record { answer = is; rests = no_trace-if due (λ e. cc (sym e ∙ ap (λ (x : Answer). x.status) is)) }
-
-pub ready-no_report : (due : Due) → (due_answer due).status ≢ Done → IsReady due
-ready-no_report due h = ready-if due (no_trace-if due h)
 
 pub ready-none : {V F : Type 0} (held : Option Files) (file : FileKind) (name : List ℕ) (cause : F → List ℕ) (reading : List ℕ → Result V F) (due : Due)
     → GivesNone held file name cause reading due → IsReady due
@@ -140,7 +140,7 @@ module _ {V F : Type 0} (held : Option Files) (c : Command) (file : FileKind) (n
     nothing = is_nothing held file name cause reading due none;
   }
 
--- ---- a command that traces
+-- ---- a command over the files of a lens, a catalogue and a job
 -- for want of memory
 pub makes_nothing : (held : Option Files) (i : Inputs) → MakesNone held i Nothing
 makes_nothing held i = record {
@@ -151,20 +151,19 @@ makes_nothing held i = record {
   nothing = λ e. refl;
 }
 
-module _ (held : Option Files) (i : Inputs) (c : Command) (text : Setup → Job → List ℕ) (report : Tracing → Due)
+module _ (held : Option Files) (i : Inputs) (c : Command) (text : Setup → Job → List ℕ)
     (over : (files : Contents) → answer_of files c ≡ on_inputs files i (λ s job. answer Done (text s job)))
-    (named : files_of c ≡ inputs_named i)
-    (is : (t : Tracing) → due_answer (report t) ≡ answer Done (text t.setup t.job))
-    (rests : (files : Contents) (t : Tracing) → AreInputs files i t.setup t.job → RestsOn files (Some c) (report t))
-    (rests-none : (files : Contents) (due : Due) → (due_answer due).status ≢ Done → RestsOn files (Some c) due) where
-  pub trace_given : (t : Tracing) → OfFiles held (λ files. MakesSetup files i t.setup t.job) → IsDueOf held (Some c) (report t)
+    (named : files_of c ≡ inputs_named i) where
+  pub setup_given : (s : Setup) (job : Job) (due : Due) → due_answer due ≡ answer Done (text s job)
+      → ((files : Contents) → AreInputs files i s job → RestsOn files (Some c) due) → OfFiles held (λ files. MakesSetup files i s job)
+      → IsDueOf held (Some c) due
   unfolding IsPlain
-  trace_given t made =
-      plain_due held (Some c) (report t) (subst (λ (x : Answer). IsPlain x.status) (sym (is t)) tt)
-      (OfFiles-map held (λ files. MakesSetup files i t.setup t.job) (λ files. IsAnswered files (Some c) (report t))
+  setup_given s job due is rests made =
+      plain_due held (Some c) due (subst (λ (x : Answer). IsPlain x.status) (sym is) tt)
+      (OfFiles-map held (λ files. MakesSetup files i s job) (λ files. IsAnswered files (Some c) due)
       (λ files m. record {
-        answer = is t ∙ sym (over files ∙ m.answer (λ s job. answer Done (text s job)));
-        rests = rests files t m.inputs;
+        answer = is ∙ sym (over files ∙ m.answer (λ s job. answer Done (text s job)));
+        rests = rests files m.inputs;
       })
       made)
 
@@ -176,13 +175,14 @@ module _ (held : Option Files) (i : Inputs) (c : Command) (text : Setup → Job 
         (λ files k. over (without f.0 files) ∙ k (λ s job. answer Done (text s job))) h.reached;
   }
 
-  pub trace_none : (due : Due) → MakesNone held i due → IsDueOf held (Some c) due
-  trace_none due none = record {
+  pub setup_none : ((files : Contents) (due : Due) → (due_answer due).status ≢ Done → RestsOn files (Some c) due)
+      → (due : Due) → MakesNone held i due → IsDueOf held (Some c) due
+  setup_none rests due none = record {
     outcome = λ decided.
         OfFiles-map held (λ files. (go_on : Setup → Job → Answer) → due_answer due ≡ on_inputs files i go_on) (λ files. IsAnswered files (Some c) due)
         (λ files k. record {
           answer = k (λ s job. answer Done (text s job)) ∙ sym (over files);
-          rests = rests-none files due none.no_report;
+          rests = rests files due none.no_report;
         })
         (none.outcome decided);
     read_fault = λ e. let a = none.read_fault e in rw named (a.0, a.1, a.2, a.3, fault_of (due_answer due).text a.1 a.4);

@@ -13,8 +13,7 @@ use Rattle.lensrun.specs.Due.{due_answer, preparations, Delivers, DueHolds, IsNo
 use Rattle.lensrun.specs.Found.{IsCounted}
 use Rattle.lensrun.specs.Promise.{BeginsNoReport, IsAnswered, IsComplete, IsDecided, IsDue, IsDueOf, IsReadFaultLine, IsStreamedReport, OfFiles, Prepares, PreparesLens, WritesDueFront, WritesReportFront, WritesReadFault, WritesReadFaultFront, WritesWanting, by_name}
 use Rattle.lensrun.specs.declared.due.Due.{Due}
-use Rattle.lensrun.specs.declared.due.Due.TheVariants.{Line, Glasses, Lens, Trace, TraceJson, Nothing}
-use Rattle.lensrun.specs.declared.due.Tracing.{Tracing}
+use Rattle.lensrun.specs.declared.due.Due.TheVariants.{Line, Glasses, Lens, Trace, TraceJson, First, Seidel, Nothing}
 use Rattle.lensrun.proofs.Meaning.{outcome-is, outcome-means}
 use Rattle.lensrun.proofs.Outcomes.{OfFiles-map, OfFiles-of}
 
@@ -29,6 +28,8 @@ trace-or-none (Glasses book) = inr refl
 trace-or-none (Lens file) = inr refl
 trace-or-none (Trace t) = inl (λ unlike. unlike, refl)
 trace-or-none (TraceJson t) = inl (λ unlike. unlike, refl)
+trace-or-none (First p) = inr refl
+trace-or-none (Seidel p) = inr refl
 trace-or-none Nothing = inr refl
 
 -- rows in JSON are a report
@@ -38,6 +39,8 @@ streamed-done (Glasses book) s = absurd s
 streamed-done (Lens file) s = absurd s
 streamed-done (Trace t) s = absurd s
 streamed-done (TraceJson t) s = refl
+streamed-done (First p) s = absurd s
+streamed-done (Seidel p) s = absurd s
 streamed-done Nothing s = absurd s
 
 streamed-unlike : (due : Due) → IsStreamed due → IsNoTrace due → ⊥
@@ -46,6 +49,8 @@ streamed-unlike (Trace t) s unlike = s
 streamed-unlike (Line status text) s unlike = s
 streamed-unlike (Glasses book) s unlike = s
 streamed-unlike (Lens file) s unlike = s
+streamed-unlike (First p) s unlike = s
+streamed-unlike (Seidel p) s unlike = s
 streamed-unlike Nothing s unlike = s
 
 streamed-command : (files : Contents) (c : Option Command) (due : Due) → IsStreamed due → IsAnswered files c due → IsStreamedReport c
@@ -55,8 +60,8 @@ streamed-command files (Some (glass i)) due s a = streamed-unlike due s a.rests
 streamed-command files (Some (read i)) due s a = streamed-unlike due s a.rests
 streamed-command files (Some (trace i)) due s a = let r = a.rests (streamed-done due s) in absurd (subst IsStreamed r.1 s)
 streamed-command files (Some (trace_json i)) due s a = tt
-streamed-command files (Some (first i)) due s a = absurd (streamed-unlike due s a.rests)
-streamed-command files (Some (seidel i)) due s a = absurd (streamed-unlike due s a.rests)
+streamed-command files (Some (first i)) due s a = let r = a.rests (streamed-done due s) in absurd (subst IsStreamed r.1 s)
+streamed-command files (Some (seidel i)) due s a = let r = a.rests (streamed-done due s) in absurd (subst IsStreamed r.1 s)
 
 module _ (held : Option Files) (said : List (List ℕ)) (due : Due) (ended : Status) (old new : Option (List ℕ)) (before now : ℕ)
     (h : IsDueOf held (command_of said) due) (d : Delivers due ended old new before now) where
@@ -170,8 +175,8 @@ module _ (held : Option Files) (said : List (List ℕ)) (due : Due) (ended : Sta
     prepares_by files (Some (index i)) is a = is.0 a.rests
     prepares_by files (Some (glass i)) is a = is.0 a.rests
     prepares_by files (Some (read i)) is a = is.0 a.rests
-    prepares_by files (Some (first i)) is a = is.0 a.rests
-    prepares_by files (Some (seidel i)) is a = is.0 a.rests
+    prepares_by files (Some (first i)) is a = let r = a.rests is.1 in is.0 (subst IsNoTrace (sym r.1) tt)
+    prepares_by files (Some (seidel i)) is a = let r = a.rests is.1 in is.0 (subst IsNoTrace (sym r.1) tt)
     prepares_by files (Some (trace i)) is a = let r = a.rests is.1 in (r.0.setup, r.0.job, r.2, risen ∙ ap (λ y. steps + preparations y) r.1)
     prepares_by files (Some (trace_json i)) is a = let r = a.rests is.1 in (r.0.setup, r.0.job, r.2, risen ∙ ap (λ y. steps + preparations y) r.1)
 

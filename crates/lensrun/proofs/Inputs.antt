@@ -1,4 +1,4 @@
--- What the files of a trace make, from what the shelf gave of each.
+-- What the files of a lens, a catalogue and a job make, from what the shelf gave of each.
 use Rattle.std.proofs.Common.{◌≡◌, ◌≢◌, ◌⊎◌, ℕ, suc, ◌<◌, ◌≤◌, List, [], ◌∷◌, length, inl, inr, Option, Some, None, Result, Ok, Err, refl, sym, ap, subst, ◌∙◌, arith}
 use Rattle.std.specs.Prelude.{Any, slice_index_or}
 use Rattle.std.proofs.lemmas.Bool.{le-ltb}

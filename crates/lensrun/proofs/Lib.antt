@@ -9,7 +9,9 @@ mod Inputs
 mod Lens
 mod Meaning
 mod Outcomes
+mod Paraxials
 mod Parts
+mod Picks
 mod RayLines
 mod Reaches
 mod Reading

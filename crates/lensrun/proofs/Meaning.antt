@@ -4,8 +4,10 @@ use Rattle.std.specs.Prelude.{nat_lt}
 use Rattle.dispers.specs.IndexAt12.{index_at_12-holds}
 use Rattle.dispers.specs.Picked.{IsPicked, known_if_used, picked-is}
 use Rattle.lensmodel.specs.Call.Answer.{Contents, Answer, answer, on_file, on_read, on_checked}
+use Rattle.lensmodel.specs.Call.First.{PrintsFirst}
 use Rattle.lensmodel.specs.Call.Index.{Index, PrintsIndex, index_answer}
 use Rattle.lensmodel.specs.Call.Inputs.{Inputs}
+use Rattle.lensmodel.specs.Call.Seidel.{PrintsSums}
 use Rattle.lensmodel.specs.Call.TopCall as top
 use Rattle.lensmodel.specs.Call.TopCall.{Command, Means, command_answer, command_by, if_built, index, glass, read, trace, trace_json, first, seidel}
 use Rattle.lensmodel.specs.Call.Trace.{PrintsRows}
@@ -20,7 +22,7 @@ use Rattle.lensmodel.specs.declared.glass.Glass.{Glass}
 use Rattle.lensmodel.specs.declared.status.FileKind.TheVariants.{Agf}
 use Rattle.lensmodel.specs.declared.status.Status.TheVariants.{Done, TooLong}
 use Rattle.lensrun.specs.Built.{command_of, is_built, outcome}
-use Rattle.lensrun.specs.Due.{due_answer, DueHolds, TracingHolds}
+use Rattle.lensrun.specs.Due.{due_answer, DueHolds, TracingHolds, ValuesHold}
 use Rattle.lensrun.specs.Promise.{IsAnswered}
 use Rattle.lensrun.specs.declared.due.Due.{Due}
 
@@ -79,11 +81,6 @@ module _ (files : Contents) (c : Index) where
       by None e = λ done. cc
       by (Some bytes) e = in_time (nat_lt 16_777_216 (length bytes)) _ (bytes-mean bytes e)
 
--- a command that is built
-IsBuilt : Option Command → Type 0
-IsBuilt None = Unit {0}
-IsBuilt (Some c) = is_built c ≡ true
-
 -- the rows of a trace that is done
 module _ (files : Contents) (i : Inputs) (due : Due) where
   rows-mean : IsAnswered files (Some (trace i)) due → ((due_answer due).status ≡ Done → DueHolds due)
@@ -118,31 +115,49 @@ module _ (files : Contents) (i : Inputs) (due : Due) where
         rows = subst DueHolds r.1 (holds ended);
       }
 
-command-means : (files : Contents) (c : Option Command) (due : Due) → IsBuilt c → IsAnswered files c due → ((due_answer due).status ≡ Done → DueHolds due)
+-- first-order values, and Seidel sums
+module _ (files : Contents) (i : Inputs) (due : Due) where
+  values-mean : IsAnswered files (Some (first i)) due → ((due_answer due).status ≡ Done → DueHolds due)
+      → (command_answer files (Some (first i))).status ≡ Done → PrintsFirst files i (command_answer files (Some (first i))).text
+  values-mean a holds done =
+      let ended : (due_answer due).status ≡ Done = ap (λ (x : Answer). x.status) a.answer ∙ done in
+      let r = a.rests ended in
+      let p = r.0 in
+      let h : ValuesHold p.setup p.job = subst DueHolds r.1 (holds ended) in
+      record {
+        setup = p.setup;
+        job = p.job;
+        inputs = r.2;
+        printed = sym (ap (λ (x : Answer). x.text) a.answer) ∙ ap (λ (d : Due). (due_answer d).text) r.1;
+        values = h.values;
+        trails = h.trails;
+      }
+
+  sums-mean : IsAnswered files (Some (seidel i)) due → ((due_answer due).status ≡ Done → DueHolds due)
+      → (command_answer files (Some (seidel i))).status ≡ Done → PrintsSums files i (command_answer files (Some (seidel i))).text
+  sums-mean a holds done =
+      let ended : (due_answer due).status ≡ Done = ap (λ (x : Answer). x.status) a.answer ∙ done in
+      let r = a.rests ended in
+      let p = r.0 in
+      record {
+        setup = p.setup;
+        job = p.job;
+        inputs = r.2;
+        printed = sym (ap (λ (x : Answer). x.text) a.answer) ∙ ap (λ (d : Due). (due_answer d).text) r.1;
+        sums = subst DueHolds r.1 (holds ended);
+      }
+
+command-means : (files : Contents) (c : Option Command) (due : Due) → IsAnswered files c due → ((due_answer due).status ≡ Done → DueHolds due)
     → Means files c (command_answer files c)
-unfolding PrintsWhenDone IsBuilt
-command-means files None due b a holds = tt
-command-means files (Some (index c)) due b a holds = index-means files c
-command-means files (Some (glass agf)) due b a holds = λ done. tt
-command-means files (Some (read zmx)) due b a holds = λ done. tt
-command-means files (Some (trace i)) due b a holds = λ done. rows-mean files i due a holds done
-command-means files (Some (trace_json i)) due b a holds = λ done. jsons-mean files i due a holds done
-command-means files (Some (first i)) due b a holds = absurd (cc)
-command-means files (Some (seidel i)) due b a holds = absurd (cc)
-
-if_built-is : (o : Option Command) → IsBuilt (if_built is_built o)
-unfolding IsBuilt
-if_built-is None = tt
-if_built-is (Some c) = by (is_built c) refl
-  where
-    by : (b : Bool) → is_built c ≡ b → IsBuilt (if b then Some c else None)
-    by true e = e
-    by false e = tt
-
-command-is : (words : List (List ℕ)) → IsBuilt (command_of words)
-unfolding IsBuilt
-command-is [] = tt
-command-is (word ∷ rest) = if_built-is (command_by word rest)
+unfolding PrintsWhenDone
+command-means files None due a holds = tt
+command-means files (Some (index c)) due a holds = index-means files c
+command-means files (Some (glass agf)) due a holds = λ done. tt
+command-means files (Some (read zmx)) due a holds = λ done. tt
+command-means files (Some (trace i)) due a holds = λ done. rows-mean files i due a holds done
+command-means files (Some (trace_json i)) due a holds = λ done. jsons-mean files i due a holds done
+command-means files (Some (first i)) due a holds = λ done. values-mean files i due a holds done
+command-means files (Some (seidel i)) due a holds = λ done. sums-mean files i due a holds done
 
 -- what is due is the outcome, and means what the words ask for
 pub outcome-is : (files : Contents) (words : List (List ℕ)) → command_answer files (command_of words) ≡ outcome files words
@@ -152,4 +167,4 @@ outcome-is files words = refl
 pub outcome-means : (files : Contents) (words : List (List ℕ)) (due : Due) → IsAnswered files (command_of words) due
     → ((due_answer due).status ≡ Done → DueHolds due) → Means files (command_of words) (outcome files words)
 unfolding top.outcome
-outcome-means files words due a holds = command-means files (command_of words) due (command-is words) a holds
+outcome-means files words due a holds = command-means files (command_of words) due a holds

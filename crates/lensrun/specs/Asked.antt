@@ -2,12 +2,12 @@
 use Rattle.std.specs.Prelude.{ℕ, pos, ◌<ℤ◌, List, length, nat_le, Option, Some, None, option_map, if◌then◌else◌}
 use Rattle.arrayvec.specs.ArrayVec.{ArrayVec}
 use Rattle.lensmodel.specs.Call.Inputs.{Inputs as Named}
-use Rattle.lensmodel.specs.Call.TopCall.{Command as Asked, index, glass, read, trace, trace_json}
+use Rattle.lensmodel.specs.Call.TopCall.{Command as Asked, index, glass, read, trace, trace_json, first, seidel}
 use Rattle.lensrun.specs.declared.words.Command.{Command}
-use Rattle.lensrun.specs.declared.words.Command.TheVariants.{Index, Glass, Read, Trace, TraceJson}
+use Rattle.lensrun.specs.declared.words.Command.TheVariants.{Index, Glass, Read, Trace, TraceJson, First, Seidel}
 use Rattle.lensrun.specs.declared.words.Inputs.{Inputs}
 
--- the names of the files of a trace
+-- the names of the files of a lens, a catalogue and a job, and of a box
 abbrev pub inputs : Inputs → Named
 inputs i = record { zmx = i.lens.now; agf = i.catalogue.now; job = i.job.now; tol = option_map (λ t. t.now) i.tolerances }
 
@@ -22,6 +22,8 @@ asked (Glass catalogue) = glass catalogue.now
 asked (Read lens) = read lens.now
 asked (Trace i) = trace (inputs i)
 asked (TraceJson i) = trace_json (inputs i)
+asked (First i) = first (inputs i)
+asked (Seidel i) = seidel (inputs i)
 
 -- the same, where there is one
 abbrev pub asked_if : Option Command → Option Asked
@@ -35,6 +37,8 @@ HasWavelength (Glass catalogue) = Unit {0}
 HasWavelength (Read lens) = Unit {0}
 HasWavelength (Trace i) = Unit {0}
 HasWavelength (TraceJson i) = Unit {0}
+HasWavelength (First i) = Unit {0}
+HasWavelength (Seidel i) = Unit {0}
 
 -- a word of at most n bytes as a name, each byte one unit
 abbrev pub name_within : ℕ → List ℕ → Option (ArrayVec ℕ)

@@ -10,8 +10,8 @@ is_built (glass agf) = true
 is_built (read zmx) = true
 is_built (trace i) = true
 is_built (trace_json i) = true
-is_built (first i) = false
-is_built (seidel i) = false
+is_built (first i) = true
+is_built (seidel i) = true
 
 -- the command that the words fit
 abbrev pub command_of : List (List ℕ) → Option Command

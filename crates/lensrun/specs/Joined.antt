@@ -1,4 +1,5 @@
--- What the files of a trace make: a setup and a job, or what is due in their place. Cited by the joining of files.
+-- What the files of a lens, a catalogue and a job make: a setup and a job, or what is due in their place.
+-- Cited by the joining of files.
 use Rattle.std.specs.Prelude.{◌≡◌, ◌≢◌, ℕ, List, Any, Option, None, Some}
 use Rattle.lensio.specs.Held.{Files}
 use Rattle.lensmodel.specs.Call.Answer.{Contents, Answer, answer}

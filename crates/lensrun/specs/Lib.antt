@@ -5,6 +5,7 @@ pub mod Found
 pub mod Gathered
 pub mod Joined
 pub mod Numbered
+pub mod Paraxial
 pub mod Promise
 pub mod Streams
 pub mod Traces

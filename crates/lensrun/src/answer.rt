@@ -5,6 +5,7 @@ ghost use Rattle.lensio.specs.Taken.{Takes, TakesFront};
 ghost use Rattle.lensmodel.specs.Call.Answer.{answer};
 ghost use Rattle.lensmodel.specs.Call.Inputs.{inputs_named};
 ghost use Rattle.lensmodel.specs.Call.TopCall as top;
+ghost use Rattle.lensmodel.specs.Setup.WellFormed.{IsWellFormed};
 ghost use Rattle.lensmodel.specs.Texts.Index.{index_line};
 ghost use Rattle.lensrun.specs.Asked.{inputs};
 ghost use Rattle.lensrun.specs.Due.{due_answer, index_answer, CanBeTraced, IsNoTrace, IsReady};
@@ -12,7 +13,7 @@ ghost use Rattle.lensrun.specs.Found.{IsCounted, ended};
 ghost use Rattle.lensrun.specs.Joined.{MakesNone, MakesSetup};
 ghost use Rattle.lensrun.specs.Promise.{IsDueOf, OfFiles};
 
-use crate::due::{Due, Tracing, crossed};
+use crate::due::{Due, Paraxial, Tracing, crossed};
 use crate::files::{book_of, lens_of};
 use crate::joined::setup_of;
 use crate::words::Inputs;
@@ -119,6 +120,49 @@ pub fn json_due<F: Shelf>(alloc: Global, shelf: &mut F, names: &Inputs<'_>) -> D
 {
     match tracing(alloc, shelf, names) {
         Ok(tracing) => Due::TraceJson(tracing),
+        Err(due) => due,
+    }
+}
+
+/// A lens with its job.
+fn paraxial<F: Shelf>(alloc: Global, shelf: &mut F, names: &Inputs<'_>) -> Result<Paraxial, Due>
+    ensures given { IfOk result (λ p. OfFiles (F.held shelf.old) (λ files. MakesSetup files (inputs names.now) p.setup p.job)) }
+    ensures well { IfOk result (λ p. IsWellFormed p.setup) }
+    ensures none { IfErr result (λ due. MakesNone (F.held shelf.old) (inputs names.now) due) }
+    ensures asks { TakesFront (F.asked shelf.old) (F.asked shelf.new) (map (λ file. file.1) (inputs_named (inputs names.now))) }
+    ensures counts { IsCounted (ended result) (length (inputs_named (inputs names.now)))
+        (F.faults shelf.old) (F.faults shelf.new) (F.absences shelf.old) (F.absences shelf.new) (F.given shelf.old) (F.given shelf.new) }
+{
+    match setup_of(alloc, shelf, names) {
+        Ok((setup, job)) => Ok(Paraxial { setup, job }),
+        Err(due) => Err(due),
+    }
+}
+
+/// The first-order values of a lens, and the trails of the paraxial rays of its job.
+pub fn first_due<F: Shelf>(alloc: Global, shelf: &mut F, names: &Inputs<'_>) -> Due
+    ensures due { IsDueOf (F.held shelf.old) (Some (top.first (inputs names.now))) result }
+    ensures ready { IsReady result }
+    ensures asks { TakesFront (F.asked shelf.old) (F.asked shelf.new) (map (λ file. file.1) (inputs_named (inputs names.now))) }
+    ensures counts { IsCounted (Some (due_answer result).status) (length (inputs_named (inputs names.now)))
+        (F.faults shelf.old) (F.faults shelf.new) (F.absences shelf.old) (F.absences shelf.new) (F.given shelf.old) (F.given shelf.new) }
+{
+    match paraxial(alloc, shelf, names) {
+        Ok(paraxial) => Due::First(paraxial),
+        Err(due) => due,
+    }
+}
+
+/// The Seidel sums of the pairs of paraxial rays of a job.
+pub fn seidel_due<F: Shelf>(alloc: Global, shelf: &mut F, names: &Inputs<'_>) -> Due
+    ensures due { IsDueOf (F.held shelf.old) (Some (top.seidel (inputs names.now))) result }
+    ensures ready { IsReady result }
+    ensures asks { TakesFront (F.asked shelf.old) (F.asked shelf.new) (map (λ file. file.1) (inputs_named (inputs names.now))) }
+    ensures counts { IsCounted (Some (due_answer result).status) (length (inputs_named (inputs names.now)))
+        (F.faults shelf.old) (F.faults shelf.new) (F.absences shelf.old) (F.absences shelf.new) (F.given shelf.old) (F.given shelf.new) }
+{
+    match paraxial(alloc, shelf, names) {
+        Ok(paraxial) => Due::Seidel(paraxial),
         Err(due) => due,
     }
 }

@@ -9,9 +9,11 @@ ghost use Rattle.lensrun.specs.Due.{preparations, Delivers, DueHolds, IsReady};
 ghost use Rattle.lensrun.specs.Streams.{streamed_status};
 
 use crate::due::Due;
+use crate::first::write_first;
 use crate::json::{Unwritten, write_json};
 use crate::lines::{Wavelengths, gather_surfaces};
 use crate::report::{Piece, gather_line, gather_lines};
+use crate::sums::write_sums;
 use crate::trace::write_trace;
 use glassbook::book::GlassBook;
 use lensio::shelf::Failed;
@@ -57,6 +59,8 @@ pub fn deliver<K: Sink, L: Ledger>(
             out,
             steps,
         )),
+        Due::First(p) => ended(write_first(&p.setup, &p.job, out), Status::Done),
+        Due::Seidel(p) => ended(write_sums(&p.setup, &p.job, out), Status::Done),
         Due::Nothing => Status::Memory,
     }
 }

@@ -37,6 +37,10 @@ pub enum Due {
     Trace(Tracing),
     /// The same rows as JSON.
     TraceJson(Tracing),
+    /// The first-order values of a lens and the trails of a job, with which the call is done.
+    First(Paraxial),
+    /// The Seidel sums of a job, with which the call is done.
+    Seidel(Paraxial),
     /// Nothing, for want of memory.
     Nothing,
 }
@@ -50,6 +54,15 @@ pub struct Tracing {
     pub job: Job,
     /// Room for the prepared surfaces.
     pub bench: Bench,
+}
+
+/// A lens whose paraxial rays are worked out.
+#[derive(Drop)]
+pub struct Paraxial {
+    /// The lens with its media and its job's settings.
+    pub setup: Setup,
+    /// The job.
+    pub job: Job,
 }
 
 /// Words that fit no command.

@@ -9,7 +9,7 @@ ghost use Rattle.lensrun.specs.Due.{due_answer, IsReady};
 ghost use Rattle.lensrun.specs.Found.{IsCounted};
 ghost use Rattle.lensrun.specs.Promise.{IsDueOf, names_of};
 
-use crate::answer::{glass_due, index_due, json_due, read_due, trace_due};
+use crate::answer::{first_due, glass_due, index_due, json_due, read_due, seidel_due, trace_due};
 use crate::due::{Due, usage};
 use crate::words::{Command, command_of};
 use lensio::shelf::Shelf;
@@ -45,5 +45,7 @@ pub fn gather<F: Shelf>(alloc: Global, words: &[Vec<u8>], shelf: &mut F) -> Due
         Command::Read { lens } => read_due(alloc, shelf, lens),
         Command::Trace(names) => trace_due(alloc, shelf, &names),
         Command::TraceJson(names) => json_due(alloc, shelf, &names),
+        Command::First(names) => first_due(alloc, shelf, &names),
+        Command::Seidel(names) => seidel_due(alloc, shelf, &names),
     }
 }

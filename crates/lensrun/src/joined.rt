@@ -1,4 +1,4 @@
-//! The files of a trace, joined.
+//! The files of a lens, a catalogue and a job, joined.
 
 ghost use Rattle.std.specs.Prelude.{◌≡◌, ◌-◌, IfOk, IfErr, length, map, option_map};
 ghost use Rattle.lensio.specs.Taken.{Takes, TakesFront};
@@ -41,8 +41,8 @@ fn box_if<F: Shelf>(
     }
 }
 
-/// The setup and the job of the files of a trace: each is read and accepted before the next is asked
-/// for, and then they are joined.
+/// The setup and the job of the files that are named: each is read and accepted before the next is
+/// asked for, and then they are joined.
 pub fn setup_of<F: Shelf>(
     alloc: Global,
     shelf: &mut F,

@@ -5,6 +5,7 @@ mod answer;
 mod deliver;
 mod due;
 mod files;
+mod first;
 mod gather;
 mod joined;
 mod json;
@@ -12,6 +13,7 @@ mod lines;
 mod rays;
 mod report;
 pub mod run;
+mod sums;
 #[cfg(test)]
 mod tests;
 mod trace;

@@ -1,6 +1,7 @@
 //! Rows of the top call.
 
 mod outside;
+mod paraxial;
 mod rows;
 mod traces;
 

@@ -40,9 +40,13 @@ pub enum Command<'a> {
     Trace(Inputs<'a>),
     /// `trace-json ZMX AGF JOB [TOL]`: the same rows as JSON, a line each.
     TraceJson(Inputs<'a>),
+    /// `first ZMX AGF JOB`: first-order values, and the trails of the job's paraxial rays.
+    First(Inputs<'a>),
+    /// `seidel ZMX AGF JOB`: the Seidel sums of the job's pairs of paraxial rays.
+    Seidel(Inputs<'a>),
 }
 
-/// The names of the files of a trace.
+/// The names of the files of a lens, a catalogue and a job, and of a box.
 #[derive(Clone, Copy, Debug, Drop)]
 pub struct Inputs<'a> {
     /// The lens's.
@@ -168,6 +172,37 @@ fn json_words(words: &[Vec<u8>]) -> Option<Command<'_>>
     Some(Command::TraceJson(input_names(words)?))
 }
 
+/// The files of a lens, a catalogue and a job.
+fn three_names(words: &[Vec<u8>]) -> Option<Inputs<'_>>
+    ensures { inputs_if result ≡ files.three_inputs (map (λ w. w.items) words.now) }
+{
+    let [lens, catalogue, job] = words else {
+        return None;
+    };
+    Some(Inputs {
+        lens: lens.as_slice(),
+        catalogue: catalogue.as_slice(),
+        job: job.as_slice(),
+        tolerances: None,
+    })
+}
+
+/// The words after `first`.
+fn first_words(words: &[Vec<u8>]) -> Option<Command<'_>>
+    ensures exact { asked_if result ≡ option_map top.first (files.three_inputs (map (λ w. w.items) words.now)) }
+    ensures wave { IfSome result HasWavelength }
+{
+    Some(Command::First(three_names(words)?))
+}
+
+/// The words after `seidel`.
+fn seidel_words(words: &[Vec<u8>]) -> Option<Command<'_>>
+    ensures exact { asked_if result ≡ option_map top.seidel (files.three_inputs (map (λ w. w.items) words.now)) }
+    ensures wave { IfSome result HasWavelength }
+{
+    Some(Command::Seidel(three_names(words)?))
+}
+
 /// The command that the words ask for; None where they fit no command.
 pub fn command_of(words: &[Vec<u8>]) -> Option<Command<'_>>
     ensures exact { asked_if result ≡ command_of (map (λ w. w.items) words.now) }
@@ -184,6 +219,10 @@ pub fn command_of(words: &[Vec<u8>]) -> Option<Command<'_>>
         trace_words(rest)
     } else if name.as_slice() == b"trace-json".as_slice() {
         json_words(rest)
+    } else if name.as_slice() == b"first".as_slice() {
+        first_words(rest)
+    } else if name.as_slice() == b"seidel".as_slice() {
+        seidel_words(rest)
     } else {
         None
     }

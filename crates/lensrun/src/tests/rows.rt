@@ -126,7 +126,7 @@ fn reports_and_refusals(rt: HostRuntime) -> Result<(), Fail> {
     tables::<HostRuntime, Brand>(&rt, rt.alloc(), Blank::new(1))
 }
 
-const MISFITS: [&str; 16] = [
+const MISFITS: [&str; 20] = [
     "read",
     "read F F",
     "glass",
@@ -137,6 +137,10 @@ const MISFITS: [&str; 16] = [
     "trace-json F F",
     "trace-json F F F F F",
     "trace_json F F F",
+    "first F F",
+    "first F F F F",
+    "seidel F F",
+    "seidel F F F F",
     "index F FLAT",
     "index F FLAT 0",
     "index F FLAT -0.5",

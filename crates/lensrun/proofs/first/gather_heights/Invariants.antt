@@ -1,0 +1,13 @@
+use Rattle.std.proofs.Common.{◌≡◌, ◌++◌, take}
+use Rattle.std.specs.List.{concat}
+use Rattle.lensmodel.specs.Texts.FirstOrder.{trail_line}
+use Rattle.lensrun.specs.Gathered.{Gathers}
+use Rattle.lensrun.specs.Numbered.{numbered}
+use Rattle.lensrun.proofs.first.gather_heights.Given as goal
+
+-- the lines of the surfaces before were written or are gathered
+abbrev pub invariant-loop-j : goal.invariant-loop-j
+invariant-loop-j g l = record {
+  gathers : Gathers (g.K.Sink.taken l.fn.out) (g.K.Sink.taken l.out) l.piece.bytes (l.fn.piece.bytes ++ concat (take l.j (numbered (trail_line l.scale) 1 l.trail)));
+  calm : g.K.Sink.faults l.out ≡ g.K.Sink.faults l.fn.out;
+}
