@@ -25,8 +25,8 @@ fn push_first_value(name: &str, value: &Step<Span>, scale: u32, out: &mut Line)
     out.push_str("\n");
 }
 
-/// Writes `first scale S`, and `NAME [a,b]` of each of the six values. The line is empty before, and the
-/// scale is from 1 to 15, here and below.
+/// Writes `first scale S`, and `NAME [a,b]` of each of the six values. The line is empty before, and
+/// the scale is from 1 to 15, here and below.
 pub fn print_first_head(values: &FirstOut, out: &mut Line)
     requires empty { out.old.bytes ≡ [] }
     requires low { 1 ≤ values.now.scale }

@@ -50,8 +50,8 @@ fn push_five(scale: u32, sums: &Five, out: &mut Line)
     push_value(&sums.s5, scale, out);
 }
 
-/// Writes `surf j S1 [a,b] S2 [a,b] S3 [a,b] S4 [a,b] S5 [a,b]`, the sums of surface `j`. The scale is
-/// from 1 to 15, here and below.
+/// Writes `surf j S1 [a,b] S2 [a,b] S3 [a,b] S4 [a,b] S5 [a,b]`, the sums of surface `j`. The scale
+/// is from 1 to 15, here and below.
 pub fn print_sums(scale: u32, j: u32, sums: &Five, out: &mut Line)
     requires empty { out.old.bytes ≡ [] }
     requires low { 1 ≤ scale }

@@ -1,11 +1,9 @@
 -- What is due for the words of a call, from what its files gave.
-use Rattle.std.proofs.Common.{◌≡◌, ◌≢◌, ◌⊎◌, ℕ, List, [], ◌∷◌, length, inl, inr, Option, Some, None, Result, Ok, Err, refl, sym, ap, subst, ◌∙◌, arith}
-use Rattle.std.specs.Prelude.{Any}
+use Rattle.std.proofs.Common.{◌≡◌, ◌≢◌, ◌⊎◌, ℕ, List, [], ◌∷◌, inl, inr, Option, Some, None, Result, Ok, Err, refl, sym, ap, subst, ◌∙◌, arith}
 use Rattle.lensio.specs.Held.{Files}
 use Rattle.lensmodel.specs.Call.Answer.{Contents, Answer, answer, on_checked}
 use Rattle.lensmodel.specs.Call.Inputs.{Inputs, AreInputs, inputs_named, on_inputs}
-use Rattle.lensmodel.specs.Call.TopCall.{Command, answer_of, command_answer, files_of, index, glass, read, trace, trace_json, first, seidel}
-use Rattle.lensmodel.specs.Setup.WellFormed.{IsWellFormed, IsInRange}
+use Rattle.lensmodel.specs.Call.TopCall.{Command, answer_of, files_of}
 use Rattle.lensmodel.specs.Texts.FaultText.{absent_line, usage_line}
 use Rattle.lensmodel.specs.declared.fault.CrossFault.{CrossFault}
 use Rattle.lensmodel.specs.declared.job.Job.{Job}
@@ -16,11 +14,11 @@ use Rattle.lensmodel.specs.declared.status.Status.TheVariants.{Done, Usage, Refu
 use Rattle.lensrun.specs.Due.{due_answer, IsReady, IsNoTrace, RestsOn}
 use Rattle.lensrun.specs.Found.{IsFound, Gives, GivesNone, over_file}
 use Rattle.lensrun.specs.Joined.{MakesSetup, MakesNone, IsInputFault}
-use Rattle.lensrun.specs.Promise.{IsAnswered, IsDecided, IsDueOf, IsFaultOf, OfFiles, by_name, without}
+use Rattle.lensrun.specs.Promise.{IsAnswered, IsDueOf, IsFaultOf, OfFiles, by_name, without}
 use Rattle.lensrun.specs.declared.due.Due.{Due}
 use Rattle.lensrun.specs.declared.due.Due.TheVariants.{Line, Glasses, Lens, Trace, TraceJson, First, Seidel, Nothing}
 use Rattle.lensrun.proofs.Outcomes.{OfFiles-map}
-use Rattle.lensrun.proofs.Stopping.{look, look-found, given, stopped, no_report, no_write, is_nothing, fault_line}
+use Rattle.lensrun.proofs.Stopping.{given, stopped, no_report, no_write, is_nothing, fault_line}
 
 -- the statuses of what is due where no file is wanting
 IsPlain : Status → Type 0

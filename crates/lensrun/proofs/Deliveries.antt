@@ -1,17 +1,16 @@
 -- What was delivered, where it was the outcome.
-use Rattle.std.proofs.Common.{◌≡◌, ◌≢◌, ◌⊎◌, ℕ, ◌+◌, ◌*◌, ◌<◌, List, [], Option, Some, None, subst, ap, sym, refl, ◌∙◌, inl, inr, arith}
+use Rattle.std.proofs.Common.{◌≡◌, ◌≢◌, ◌⊎◌, ℕ, ◌+◌, ◌*◌, ◌<◌, List, Option, Some, None, subst, ap, sym, refl, ◌∙◌, inl, inr, arith}
 use Rattle.lensio.specs.Count.{Rose, RoseBy}
 use Rattle.lensio.specs.Held.{Files}
 use Rattle.lensio.specs.Taken.{Takes, TakesFront}
 use Rattle.lensmodel.specs.Call.Answer.{Contents, Answer}
-use Rattle.lensmodel.specs.Call.TopCall.{Command, command_answer, index, glass, read, trace, trace_json, first, seidel}
-use Rattle.lensmodel.specs.Setup.Values.{image}
+use Rattle.lensmodel.specs.Call.TopCall.{Command, index, glass, read, trace, trace_json, first, seidel}
 use Rattle.lensmodel.specs.declared.status.Status.{Status}
 use Rattle.lensmodel.specs.declared.status.Status.TheVariants.{Done, Usage, Refused, Absent, ReadFault, TooLong, WriteFault, Memory}
 use Rattle.lensrun.specs.Built.{command_of, outcome}
-use Rattle.lensrun.specs.Due.{due_answer, preparations, Delivers, DueHolds, IsNoTrace, IsStreamed, RestsOn}
+use Rattle.lensrun.specs.Due.{due_answer, preparations, Delivers, DueHolds, IsNoTrace, IsStreamed}
 use Rattle.lensrun.specs.Found.{IsCounted}
-use Rattle.lensrun.specs.Promise.{BeginsNoReport, IsAnswered, IsComplete, IsDecided, IsDue, IsDueOf, IsReadFaultLine, IsStreamedReport, OfFiles, Prepares, PreparesLens, WritesDueFront, WritesReportFront, WritesReadFault, WritesReadFaultFront, WritesWanting, by_name}
+use Rattle.lensrun.specs.Promise.{BeginsNoReport, IsAnswered, IsComplete, IsDecided, IsDue, IsDueOf, IsStreamedReport, OfFiles, Prepares, PreparesLens, WritesDueFront, WritesReportFront, WritesReadFault, WritesReadFaultFront, WritesWanting, by_name}
 use Rattle.lensrun.specs.declared.due.Due.{Due}
 use Rattle.lensrun.specs.declared.due.Due.TheVariants.{Line, Glasses, Lens, Trace, TraceJson, First, Seidel, Nothing}
 use Rattle.lensrun.proofs.Meaning.{outcome-is, outcome-means}

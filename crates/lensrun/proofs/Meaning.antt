@@ -1,5 +1,5 @@
 -- The outcome of a call means what its command asks for.
-use Rattle.std.proofs.Common.{◌≡◌, ℕ, Bool, true, false, List, [], ◌∷◌, length, Option, Some, None, Result, Ok, Err, refl, sym, ap, subst, ◌∙◌, if◌then◌else◌}
+use Rattle.std.proofs.Common.{◌≡◌, ℕ, Bool, true, false, List, length, Option, Some, None, Result, Ok, Err, refl, sym, ap, subst, ◌∙◌, if◌then◌else◌}
 use Rattle.std.specs.Prelude.{nat_lt}
 use Rattle.dispers.specs.IndexAt12.{index_at_12-holds}
 use Rattle.dispers.specs.Picked.{IsPicked, known_if_used, picked-is}
@@ -21,7 +21,7 @@ use Rattle.lensmodel.specs.declared.fault.CrossFault.{CrossFault}
 use Rattle.lensmodel.specs.declared.glass.Glass.{Glass}
 use Rattle.lensmodel.specs.declared.status.FileKind.TheVariants.{Agf}
 use Rattle.lensmodel.specs.declared.status.Status.TheVariants.{Done, TooLong}
-use Rattle.lensrun.specs.Built.{command_of, is_built, outcome}
+use Rattle.lensrun.specs.Built.{command_of, outcome}
 use Rattle.lensrun.specs.Due.{due_answer, DueHolds, TracingHolds, ValuesHold}
 use Rattle.lensrun.specs.Promise.{IsAnswered}
 use Rattle.lensrun.specs.declared.due.Due.{Due}

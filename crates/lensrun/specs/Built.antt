@@ -1,5 +1,5 @@
 -- The commands that are built: every other one is as words that fit no command.
-use Rattle.std.specs.Prelude.{ℕ, Bool, true, false, List, Option}
+use Rattle.std.specs.Prelude.{ℕ, Bool, true, List, Option}
 use Rattle.lensmodel.specs.Call.Answer.{Contents, Answer}
 use Rattle.lensmodel.specs.Call.TopCall as top
 use Rattle.lensmodel.specs.Call.TopCall.{Command, index, glass, read, trace, trace_json, first, seidel}

@@ -3,7 +3,7 @@
 use crate::read::read_zmx;
 use crate::tags::Tags;
 use fixdec::dec::Dec;
-use lensmodel::fault::ZmxFault;
+use lensmodel::fault::{TextFault, ZmxFault};
 use lensmodel::surface::{Surface, SurfaceKind};
 use records::word::is_word;
 use std::test::Fail;
@@ -112,4 +112,75 @@ fn faults(rt: HostRuntime) {
         Some(ZmxFault::BadNumber { line: 3, word: 2 })
     );
     assert_eq!(rt; of(b"SURF 0\nSURF 1\nSURF 2\n"), Some(ZmxFault::StopCount));
+}
+
+/// Three planes. The tags VERS, UNIT and HIDE aren't used.
+const PLANES: &[u8] =
+    b"VERS 140124 0\r\nMODE SEQ\r\nUNIT MM X W X CM MR CPMM\r\nWAVM 1 0.55 1\r\nPWAV 1\r\nSURF 0\r\n  DISZ INFINITY\r\nSURF 1\r\n  STOP\r\n  COMM front\r\n  HIDE 0 0 0\r\n  TYPE STANDARD\r\n  CURV 0.0 0 0 0 0 \"\"\r\n  DISZ 4\r\n  DIAM 5 0 0 0 1 \"\"\r\nSURF 2\r\n  TYPE STANDARD\r\n";
+
+const FEW: Option<ZmxFault> = Some(ZmxFault::TooFewSurfaces);
+
+/// Why a front of `PLANES` in UTF-16 is refused, from each length in bytes on. It ends inside a record
+/// that lacks a word, or whose word is cut off, or before the last surface.
+const FRONTS: &[(usize, Option<ZmxFault>)] = &[
+    (0, FEW),
+    (40, Some(ZmxFault::MissingWord { line: 2 })),
+    (44, FEW),
+    (112, Some(ZmxFault::MissingWord { line: 4 })),
+    (120, FEW),
+    (142, Some(ZmxFault::MissingWord { line: 5 })),
+    (146, FEW),
+    (158, Some(ZmxFault::MissingWord { line: 6 })),
+    (162, FEW),
+    (178, Some(ZmxFault::MissingWord { line: 7 })),
+    (182, Some(ZmxFault::BadNumber { line: 7, word: 2 })),
+    (196, FEW),
+    (208, Some(ZmxFault::MissingWord { line: 8 })),
+    (212, FEW),
+    (300, Some(ZmxFault::MissingWord { line: 12 })),
+    (304, Some(ZmxFault::SurfaceType { line: 12 })),
+    (318, FEW),
+    (334, Some(ZmxFault::MissingWord { line: 13 })),
+    (338, FEW),
+    (380, Some(ZmxFault::MissingWord { line: 14 })),
+    (384, FEW),
+    (400, Some(ZmxFault::MissingWord { line: 15 })),
+    (404, FEW),
+    (438, Some(ZmxFault::MissingWord { line: 16 })),
+    (442, None),
+    (458, Some(ZmxFault::MissingWord { line: 17 })),
+    (462, Some(ZmxFault::SurfaceType { line: 17 })),
+    (476, None),
+];
+
+/// Why a front of so many bytes is refused: for half a unit, behind the mark of UTF-16, and else by the
+/// table.
+fn fault_of_front(length: usize) -> Option<ZmxFault> {
+    if length > 2 && length % 2 == 1 {
+        return Some(ZmxFault::Text(TextFault::OddByte));
+    }
+    let mut fault = FEW;
+    for (from, next) in FRONTS {
+        if *from <= length {
+            fault = *next;
+        }
+    }
+    fault
+}
+
+#[test]
+fn every_front_of_a_wide_file(rt: HostRuntime) -> Result<(), Fail> {
+    let mut file = vec![in rt.alloc(); 0xFFu8, 0xFE]?;
+    for byte in PLANES {
+        file.push(*byte)?;
+        file.push(0)?;
+    }
+    for length in 0..=file.len() {
+        assert_eq!(rt;
+            read_zmx(rt.alloc(), &file[..length]).err(),
+            fault_of_front(length),
+            "at {length}"
+        );
+    }
+    Ok(())
 }

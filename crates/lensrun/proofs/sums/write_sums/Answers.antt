@@ -1,4 +1,4 @@
-use Rattle.std.proofs.Common.{refl, subst, ◌∙◌}
+use Rattle.std.proofs.Common.{subst, ◌∙◌}
 use Rattle.std.proofs.lemmas.Result.{err_from_is_err_and, on_ok_weaker, on_err_weaker}
 use Rattle.lensio.specs.Taken.{Takes, TakesFront}
 use Rattle.lensrun.proofs.Paraxials.{seidel-whole, report_front, report_rest_front, report_taken, report_put_front}
