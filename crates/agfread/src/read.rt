@@ -46,7 +46,8 @@ fn text_fault(fault: TextFault) -> AgfFault
 /// The book of the glasses of lines, or the fault of the first line that has one.
 fn read_glasses(alloc: Global, text: &Text) -> Result<GlassBook, AgfFault>
     ensures book { IfOk result (λ b. of_lines (each_words text.now) ≡ Ok b) }
-    ensures fault { IfErr result (λ f. f ≢ AgfFault.Memory → of_lines (each_words text.now) ≡ Err f) }
+    ensures fault { IfErr result
+        (λ f. f ≢ AgfFault.Memory → of_lines (each_words text.now) ≡ Err f) }
 {
     let mut reader = Reader::new(alloc);
     read_lines(text, &mut reader)?;

@@ -45,7 +45,8 @@ impl Reader {
         ensures opened { OnOk result (self.new.current ≡ Some (glass_of line.now [])) }
         ensures book { OnOk result (self.new.book ≡ closed_with self.old.current self.old.book) }
         ensures seen { OnOk result (self.new.seen ≡ self.old.seen + 1) }
-        ensures fault { IfErr result (λ f. f ≢ AgfFault.Memory → NM_fault at self.old.seen line.now ≡ Some f) }
+        ensures fault { IfErr result
+            (λ f. f ≢ AgfFault.Memory → NM_fault at self.old.seen line.now ≡ Some f) }
     {
         let glass = begun(line, at, self.seen)?;
         self.close()?;

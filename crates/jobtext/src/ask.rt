@@ -84,11 +84,14 @@ fn slopes_and_count(
     most: u32,
 ) -> Result<(Spread, Pupil), JobFault>
     requires { length line.now ≡ 4 }
-    ensures slopes { IfOk result (λ s. (s.0.p ≡ decimal_at 1 line.now) × (s.0.q ≡ decimal_at 2 line.now)) }
+    ensures slopes { IfOk result
+        (λ s. (s.0.p ≡ decimal_at 1 line.now) × (s.0.q ≡ decimal_at 2 line.now)) }
     ensures count { IfOk result (λ s. s.0.n ≡ number_at 3 line.now) }
     ensures pupil { IfOk result (λ s. pupil ≡ Some s.1) }
-    ensures sound { OnOk result (spread_fault at (is_between 1 most) (is_some pupil) line.now ≡ None) }
-    ensures fault { IfErr result (λ f. spread_fault at (is_between 1 most) (is_some pupil) line.now ≡ Some f) }
+    ensures sound { OnOk result
+        (spread_fault at (is_between 1 most) (is_some pupil) line.now ≡ None) }
+    ensures fault { IfErr result
+        (λ f. spread_fault at (is_between 1 most) (is_some pupil) line.now ≡ Some f) }
 {
     let (p, q, n) = three(line, at)?;
     if !is_whole(&n) {
@@ -102,7 +105,8 @@ fn slopes_and_count(
 /// The paraxial ray of a FIRST line.
 pub fn first(line: &Line<'_>, at: u32) -> Result<Ask, JobFault>
     requires { length line.now ≡ 3 }
-    ensures value { IfOk result (λ a. a ≡ Ask.First (decimal_at 1 line.now) (decimal_at 2 line.now)) }
+    ensures value { IfOk result
+        (λ a. a ≡ Ask.First (decimal_at 1 line.now) (decimal_at 2 line.now)) }
     ensures sound { OnOk result (decimals_offence at 2 line.now ≡ None) }
     ensures fault { IfErr result (λ f. decimals_offence at 2 line.now ≡ Some f) }
 {

@@ -51,7 +51,8 @@ fn text_fault(fault: TextFault) -> JobFault
 /// The job of lines, or the fault of the first line that has one, or of all rays.
 fn read_asks(alloc: Global, text: &Text) -> Result<Job, JobFault>
     ensures value { IfOk result (λ j. of_lines (each_record text.now) ≡ Ok j) }
-    ensures fault { IfErr result (λ f. f ≢ JobFault.Memory → of_lines (each_record text.now) ≡ Err f) }
+    ensures fault { IfErr result
+        (λ f. f ≢ JobFault.Memory → of_lines (each_record text.now) ≡ Err f) }
 {
     let mut reader = Reader::new(alloc);
     read_lines(text, &mut reader)?;

@@ -55,7 +55,8 @@ impl Reader {
     fn set_wave(&mut self, at: u32, line: &Line<'_>) -> Result<(), JobFault>
         requires { length line.now ≡ 2 }
         ensures sound { OnOk result (decimal_fault at is_positive line.now ≡ None) }
-        ensures new { OnOk result (self.new ≡ record self.old { wave = Some (decimal_at 1 line.now) }) }
+        ensures new { OnOk result
+            (self.new ≡ record self.old { wave = Some (decimal_at 1 line.now) }) }
         ensures fault { IfErr result (λ f. decimal_fault at is_positive line.now ≡ Some f) }
     {
         self.wave = Some(wavelength(line, at)?);
@@ -66,7 +67,8 @@ impl Reader {
     fn set_res(&mut self, at: u32, line: &Line<'_>) -> Result<(), JobFault>
         requires { length line.now ≡ 2 }
         ensures sound { OnOk result (whole_fault at is_residual line.now ≡ None) }
-        ensures new { OnOk result (self.new ≡ record self.old { res = Some (number_at 1 line.now) }) }
+        ensures new { OnOk result
+            (self.new ≡ record self.old { res = Some (number_at 1 line.now) }) }
         ensures fault { IfErr result (λ f. whole_fault at is_residual line.now ≡ Some f) }
     {
         self.res = Some(residual(line, at)?);
@@ -77,7 +79,8 @@ impl Reader {
     fn set_width(&mut self, at: u32, line: &Line<'_>) -> Result<(), JobFault>
         requires { length line.now ≡ 2 }
         ensures sound { OnOk result (decimal_fault at is_width line.now ≡ None) }
-        ensures new { OnOk result (self.new ≡ record self.old { width = Some (decimal_at 1 line.now) }) }
+        ensures new { OnOk result
+            (self.new ≡ record self.old { width = Some (decimal_at 1 line.now) }) }
         ensures fault { IfErr result (λ f. decimal_fault at is_width line.now ≡ Some f) }
     {
         self.width = Some(width(line, at)?);
@@ -88,7 +91,8 @@ impl Reader {
     fn set_pupil(&mut self, at: u32, line: &Line<'_>) -> Result<(), JobFault>
         requires { length line.now ≡ 3 }
         ensures sound { OnOk result (PUPIL_offence at line.now ≡ None) }
-        ensures new { OnOk result (self.new ≡ record self.old { pupil = Some (pupil_of line.now) }) }
+        ensures new { OnOk result
+            (self.new ≡ record self.old { pupil = Some (pupil_of line.now) }) }
         ensures fault { IfErr result (λ f. PUPIL_offence at line.now ≡ Some f) }
     {
         self.pupil = Some(pupil_plane(line, at)?);

@@ -34,7 +34,8 @@ pub fn print_lens(lens: &Prescription, out: &mut Line)
 pub fn print_surface(lens: &Prescription, j: u32, out: &mut Line)
     requires surface { j < length lens.now.surfaces.items }
     requires empty { out.old.bytes ≡ [] }
-    ensures { out.new.bytes ≡ texts.surface_line j (slice_index_or lens.now.surfaces.items j plane) }
+    ensures { out.new.bytes
+        ≡ texts.surface_line j (slice_index_or lens.now.surfaces.items j plane) }
 {
     let mut text = ArrayString::<1024>::new();
     line(lens, j, &mut text);

@@ -56,7 +56,8 @@ fn push_centroid(x: Span, y: Span, out: &mut Line)
 /// Appends ` centroid x [..] y [..] msr [..]`, or what is lost of it.
 fn push_statistics(centroid: &Step<(Span, Span)>, mean_square: &Step<Span>, out: &mut Line)
     requires { array_string_len out.old ≤ 512 }
-    ensures bytes { out.new.bytes ≡ out.old.bytes ++ texts.statistics_text centroid.now mean_square.now }
+    ensures bytes { out.new.bytes ≡ out.old.bytes
+        ++ texts.statistics_text centroid.now mean_square.now }
     ensures len { array_string_len out.new ≤ array_string_len out.old + 450 }
 {
     match centroid {
@@ -95,7 +96,8 @@ fn print_exactly(spot: &Spot, out: &mut Line)
 /// is lost of it. The line is empty before.
 pub fn print_spot(spot: &Spot, out: &mut Line)
     requires { out.old.bytes ≡ [] }
-    ensures { (rows : List RowValue) → spot.now ≡ spot_of rows → out.new.bytes ≡ texts.spot_line rows }
+    ensures { (rows : List RowValue) → spot.now ≡ spot_of rows
+        → out.new.bytes ≡ texts.spot_line rows }
 {
     print_exactly(spot, out);
 }

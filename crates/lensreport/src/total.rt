@@ -118,7 +118,8 @@ fn print_counts(totals: &Totals, out: &mut Line)
 /// empty before.
 pub fn print_total(totals: &Totals, out: &mut Line)
     requires { out.old.bytes ≡ [] }
-    ensures { (rows : List RowValue) → totals.now ≡ counts_of rows → out.new.bytes ≡ total_line rows }
+    ensures { (rows : List RowValue) → totals.now ≡ counts_of rows
+        → out.new.bytes ≡ total_line rows }
 {
     print_counts(totals, out);
 }

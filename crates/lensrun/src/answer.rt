@@ -37,10 +37,13 @@ pub fn index_due<F: Shelf>(
     wave: &Dec,
 ) -> Due
     requires { pos 0 <ℤ wave.now.mant }
-    ensures due { IsDueOf (F.held shelf.old) (Some (top.index (record { agf = catalogue.now; name = name.now.items; wave = wave.now }))) result }
+    ensures due { IsDueOf (F.held shelf.old)
+        (Some (top.index (record { agf = catalogue.now; name = name.now.items; wave = wave.now })))
+        result }
     ensures ready { IsReady result }
     ensures asks { Takes (F.asked shelf.old) (F.asked shelf.new) (catalogue.now ∷ []) }
-    ensures counts { IsCounted (Some (due_answer result).status) 1 (F.faults shelf.old) (F.faults shelf.new)
+    ensures counts { IsCounted (Some (due_answer result).status) 1 (F.faults shelf.old)
+        (F.faults shelf.new)
         (F.absences shelf.old) (F.absences shelf.new) (F.given shelf.old) (F.given shelf.new) }
 {
     match book_of(alloc, shelf, catalogue) {
@@ -54,7 +57,8 @@ pub fn glass_due<F: Shelf>(alloc: Global, shelf: &mut F, catalogue: &[u8]) -> Du
     ensures due { IsDueOf (F.held shelf.old) (Some (top.glass catalogue.now)) result }
     ensures ready { IsReady result }
     ensures asks { Takes (F.asked shelf.old) (F.asked shelf.new) (catalogue.now ∷ []) }
-    ensures counts { IsCounted (Some (due_answer result).status) 1 (F.faults shelf.old) (F.faults shelf.new)
+    ensures counts { IsCounted (Some (due_answer result).status) 1 (F.faults shelf.old)
+        (F.faults shelf.new)
         (F.absences shelf.old) (F.absences shelf.new) (F.given shelf.old) (F.given shelf.new) }
 {
     match book_of(alloc, shelf, catalogue) {
@@ -68,7 +72,8 @@ pub fn read_due<F: Shelf>(alloc: Global, shelf: &mut F, lens: &[u8]) -> Due
     ensures due { IsDueOf (F.held shelf.old) (Some (top.read lens.now)) result }
     ensures ready { IsReady result }
     ensures asks { Takes (F.asked shelf.old) (F.asked shelf.new) (lens.now ∷ []) }
-    ensures counts { IsCounted (Some (due_answer result).status) 1 (F.faults shelf.old) (F.faults shelf.new)
+    ensures counts { IsCounted (Some (due_answer result).status) 1 (F.faults shelf.old)
+        (F.faults shelf.new)
         (F.absences shelf.old) (F.absences shelf.new) (F.given shelf.old) (F.given shelf.new) }
 {
     match lens_of(alloc, shelf, lens) {
@@ -80,10 +85,13 @@ pub fn read_due<F: Shelf>(alloc: Global, shelf: &mut F, lens: &[u8]) -> Due
 /// A lens with its job, and room for the prepared surfaces, which is taken before the first file is
 /// asked for.
 fn tracing<F: Shelf>(alloc: Global, shelf: &mut F, names: &Inputs<'_>) -> Result<Tracing, Due>
-    ensures given { IfOk result (λ t. OfFiles (F.held shelf.old) (λ files. MakesSetup files (inputs names.now) t.setup t.job)) }
+    ensures given { IfOk result
+        (λ t. OfFiles (F.held shelf.old)
+        (λ files. MakesSetup files (inputs names.now) t.setup t.job)) }
     ensures ready { IfOk result CanBeTraced }
     ensures none { IfErr result (λ due. MakesNone (F.held shelf.old) (inputs names.now) due) }
-    ensures asks { TakesFront (F.asked shelf.old) (F.asked shelf.new) (map (λ file. file.1) (inputs_named (inputs names.now))) }
+    ensures asks { TakesFront (F.asked shelf.old) (F.asked shelf.new)
+        (map (λ file. file.1) (inputs_named (inputs names.now))) }
     ensures counts { IsCounted (ended result) (length (inputs_named (inputs names.now)))
         (F.faults shelf.old) (F.faults shelf.new) (F.absences shelf.old) (F.absences shelf.new) (F.given shelf.old) (F.given shelf.new) }
 {
@@ -100,8 +108,10 @@ fn tracing<F: Shelf>(alloc: Global, shelf: &mut F, names: &Inputs<'_>) -> Result
 pub fn trace_due<F: Shelf>(alloc: Global, shelf: &mut F, names: &Inputs<'_>) -> Due
     ensures due { IsDueOf (F.held shelf.old) (Some (top.trace (inputs names.now))) result }
     ensures ready { IsReady result }
-    ensures asks { TakesFront (F.asked shelf.old) (F.asked shelf.new) (map (λ file. file.1) (inputs_named (inputs names.now))) }
-    ensures counts { IsCounted (Some (due_answer result).status) (length (inputs_named (inputs names.now)))
+    ensures asks { TakesFront (F.asked shelf.old) (F.asked shelf.new)
+        (map (λ file. file.1) (inputs_named (inputs names.now))) }
+    ensures counts { IsCounted (Some (due_answer result).status)
+        (length (inputs_named (inputs names.now)))
         (F.faults shelf.old) (F.faults shelf.new) (F.absences shelf.old) (F.absences shelf.new) (F.given shelf.old) (F.given shelf.new) }
 {
     match tracing(alloc, shelf, names) {
@@ -114,8 +124,10 @@ pub fn trace_due<F: Shelf>(alloc: Global, shelf: &mut F, names: &Inputs<'_>) -> 
 pub fn json_due<F: Shelf>(alloc: Global, shelf: &mut F, names: &Inputs<'_>) -> Due
     ensures due { IsDueOf (F.held shelf.old) (Some (top.trace_json (inputs names.now))) result }
     ensures ready { IsReady result }
-    ensures asks { TakesFront (F.asked shelf.old) (F.asked shelf.new) (map (λ file. file.1) (inputs_named (inputs names.now))) }
-    ensures counts { IsCounted (Some (due_answer result).status) (length (inputs_named (inputs names.now)))
+    ensures asks { TakesFront (F.asked shelf.old) (F.asked shelf.new)
+        (map (λ file. file.1) (inputs_named (inputs names.now))) }
+    ensures counts { IsCounted (Some (due_answer result).status)
+        (length (inputs_named (inputs names.now)))
         (F.faults shelf.old) (F.faults shelf.new) (F.absences shelf.old) (F.absences shelf.new) (F.given shelf.old) (F.given shelf.new) }
 {
     match tracing(alloc, shelf, names) {
@@ -126,10 +138,13 @@ pub fn json_due<F: Shelf>(alloc: Global, shelf: &mut F, names: &Inputs<'_>) -> D
 
 /// A lens with its job.
 fn paraxial<F: Shelf>(alloc: Global, shelf: &mut F, names: &Inputs<'_>) -> Result<Paraxial, Due>
-    ensures given { IfOk result (λ p. OfFiles (F.held shelf.old) (λ files. MakesSetup files (inputs names.now) p.setup p.job)) }
+    ensures given { IfOk result
+        (λ p. OfFiles (F.held shelf.old)
+        (λ files. MakesSetup files (inputs names.now) p.setup p.job)) }
     ensures well { IfOk result (λ p. IsWellFormed p.setup) }
     ensures none { IfErr result (λ due. MakesNone (F.held shelf.old) (inputs names.now) due) }
-    ensures asks { TakesFront (F.asked shelf.old) (F.asked shelf.new) (map (λ file. file.1) (inputs_named (inputs names.now))) }
+    ensures asks { TakesFront (F.asked shelf.old) (F.asked shelf.new)
+        (map (λ file. file.1) (inputs_named (inputs names.now))) }
     ensures counts { IsCounted (ended result) (length (inputs_named (inputs names.now)))
         (F.faults shelf.old) (F.faults shelf.new) (F.absences shelf.old) (F.absences shelf.new) (F.given shelf.old) (F.given shelf.new) }
 {
@@ -143,8 +158,10 @@ fn paraxial<F: Shelf>(alloc: Global, shelf: &mut F, names: &Inputs<'_>) -> Resul
 pub fn first_due<F: Shelf>(alloc: Global, shelf: &mut F, names: &Inputs<'_>) -> Due
     ensures due { IsDueOf (F.held shelf.old) (Some (top.first (inputs names.now))) result }
     ensures ready { IsReady result }
-    ensures asks { TakesFront (F.asked shelf.old) (F.asked shelf.new) (map (λ file. file.1) (inputs_named (inputs names.now))) }
-    ensures counts { IsCounted (Some (due_answer result).status) (length (inputs_named (inputs names.now)))
+    ensures asks { TakesFront (F.asked shelf.old) (F.asked shelf.new)
+        (map (λ file. file.1) (inputs_named (inputs names.now))) }
+    ensures counts { IsCounted (Some (due_answer result).status)
+        (length (inputs_named (inputs names.now)))
         (F.faults shelf.old) (F.faults shelf.new) (F.absences shelf.old) (F.absences shelf.new) (F.given shelf.old) (F.given shelf.new) }
 {
     match paraxial(alloc, shelf, names) {
@@ -157,8 +174,10 @@ pub fn first_due<F: Shelf>(alloc: Global, shelf: &mut F, names: &Inputs<'_>) -> 
 pub fn seidel_due<F: Shelf>(alloc: Global, shelf: &mut F, names: &Inputs<'_>) -> Due
     ensures due { IsDueOf (F.held shelf.old) (Some (top.seidel (inputs names.now))) result }
     ensures ready { IsReady result }
-    ensures asks { TakesFront (F.asked shelf.old) (F.asked shelf.new) (map (λ file. file.1) (inputs_named (inputs names.now))) }
-    ensures counts { IsCounted (Some (due_answer result).status) (length (inputs_named (inputs names.now)))
+    ensures asks { TakesFront (F.asked shelf.old) (F.asked shelf.new)
+        (map (λ file. file.1) (inputs_named (inputs names.now))) }
+    ensures counts { IsCounted (Some (due_answer result).status)
+        (length (inputs_named (inputs names.now)))
         (F.faults shelf.old) (F.faults shelf.new) (F.absences shelf.old) (F.absences shelf.new) (F.given shelf.old) (F.given shelf.new) }
 {
     match paraxial(alloc, shelf, names) {
@@ -182,7 +201,8 @@ fn index_over(book: &GlassBook, name: &Name, wave: &Dec) -> Due
 
 /// The line of the index of a glass.
 fn index_of(picked: &Picked<'_>, wave: &Dec) -> Due
-    ensures answer { due_answer result ≡ answer Status.Done (index_line picked.now.glass.name.items wave.now picked.now.index) }
+    ensures answer { due_answer result
+        ≡ answer Status.Done (index_line picked.now.glass.name.items wave.now picked.now.index) }
     ensures no_trace { IsNoTrace result }
     ensures ready { IsReady result }
 {

@@ -37,7 +37,8 @@ pub fn deliver<K: Sink, L: Ledger>(
     steps: &mut Steps<L>,
 ) -> Status
     requires { IsReady due }
-    ensures delivers { Delivers due result (K.taken out.old) (K.taken out.new) (K.faults out.old) (K.faults out.new) }
+    ensures delivers { Delivers due result (K.taken out.old) (K.taken out.new) (K.faults out.old)
+        (K.faults out.new) }
     ensures taken { result ≢ Status.WriteFault → K.faults out.new ≡ K.faults out.old }
     ensures nothing { due ≡ Due.Nothing → result ≡ Status.Memory }
     ensures holds { result ≡ Status.Done → DueHolds due }
@@ -89,7 +90,8 @@ fn streamed(written: Result<(), Unwritten>) -> Status
 /// Writes the lines of a book.
 fn write_book<K: Sink>(book: &GlassBook, out: &mut K) -> Result<(), Failed>
     ensures ok { OnOk result (Takes (K.taken out.old) (K.taken out.new) (book_text book.now)) }
-    ensures front { OnErr result (TakesFront (K.taken out.old) (K.taken out.new) (book_text book.now)) }
+    ensures front { OnErr result
+        (TakesFront (K.taken out.old) (K.taken out.new) (book_text book.now)) }
     ensures failed { OnErr result (Rose (K.faults out.old) (K.faults out.new)) }
     ensures taken { OnOk result (K.faults out.new ≡ K.faults out.old) }
 {
@@ -102,8 +104,10 @@ fn write_book<K: Sink>(book: &GlassBook, out: &mut K) -> Result<(), Failed>
 
 /// Writes the lines of a lens, and of the tags of its file that aren't used.
 fn write_lens<K: Sink>(file: &ZmxFile, out: &mut K) -> Result<(), Failed>
-    ensures ok { OnOk result (Takes (K.taken out.old) (K.taken out.new) (lens_text file.now.lens file.now.unused)) }
-    ensures front { OnErr result (TakesFront (K.taken out.old) (K.taken out.new) (lens_text file.now.lens file.now.unused)) }
+    ensures ok { OnOk result
+        (Takes (K.taken out.old) (K.taken out.new) (lens_text file.now.lens file.now.unused)) }
+    ensures front { OnErr result
+        (TakesFront (K.taken out.old) (K.taken out.new) (lens_text file.now.lens file.now.unused)) }
     ensures failed { OnErr result (Rose (K.faults out.old) (K.faults out.new)) }
     ensures taken { OnOk result (K.faults out.new ≡ K.faults out.old) }
 {

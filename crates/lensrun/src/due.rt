@@ -103,7 +103,8 @@ pub fn unread(file: FileKind, fault: SlurpFault) -> Due
 
 /// A catalogue that is refused; nothing where memory was wanting.
 pub fn refused_catalogue(fault: AgfFault) -> Due
-    ensures answer { fault ≢ AgfFault.Memory → due_answer result ≡ answer Status.Refused (refused_line FileKind.Agf (agf_cause fault)) }
+    ensures answer { fault ≢ AgfFault.Memory
+        → due_answer result ≡ answer Status.Refused (refused_line FileKind.Agf (agf_cause fault)) }
     ensures nothing { fault ≡ AgfFault.Memory → result ≡ Due.Nothing }
 {
     if fault == AgfFault::Memory {
@@ -119,7 +120,8 @@ pub fn refused_catalogue(fault: AgfFault) -> Due
 
 /// A lens that is refused; nothing where memory was wanting.
 pub fn refused_lens(fault: ZmxFault) -> Due
-    ensures answer { fault ≢ ZmxFault.Memory → due_answer result ≡ answer Status.Refused (refused_line FileKind.Zmx (zmx_cause fault)) }
+    ensures answer { fault ≢ ZmxFault.Memory
+        → due_answer result ≡ answer Status.Refused (refused_line FileKind.Zmx (zmx_cause fault)) }
     ensures nothing { fault ≡ ZmxFault.Memory → result ≡ Due.Nothing }
 {
     if fault == ZmxFault::Memory {
@@ -135,7 +137,8 @@ pub fn refused_lens(fault: ZmxFault) -> Due
 
 /// A job that is refused; nothing where memory was wanting.
 pub fn refused_job(fault: JobFault) -> Due
-    ensures answer { fault ≢ JobFault.Memory → due_answer result ≡ answer Status.Refused (refused_line FileKind.Job (job_cause fault)) }
+    ensures answer { fault ≢ JobFault.Memory
+        → due_answer result ≡ answer Status.Refused (refused_line FileKind.Job (job_cause fault)) }
     ensures nothing { fault ≡ JobFault.Memory → result ≡ Due.Nothing }
 {
     if fault == JobFault::Memory {
@@ -151,7 +154,8 @@ pub fn refused_job(fault: JobFault) -> Due
 
 /// A box that is refused; nothing where memory was wanting.
 pub fn refused_box(fault: TolFault) -> Due
-    ensures answer { fault ≢ TolFault.Memory → due_answer result ≡ answer Status.Refused (refused_line FileKind.Tol (tol_cause fault)) }
+    ensures answer { fault ≢ TolFault.Memory
+        → due_answer result ≡ answer Status.Refused (refused_line FileKind.Tol (tol_cause fault)) }
     ensures nothing { fault ≡ TolFault.Memory → result ≡ Due.Nothing }
 {
     if fault == TolFault::Memory {

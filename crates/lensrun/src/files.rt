@@ -48,9 +48,12 @@ fn bytes_of<F: Shelf>(
 
 /// The lens of a file.
 pub fn lens_of<F: Shelf>(alloc: Global, shelf: &mut F, name: &[u8]) -> Result<ZmxFile, Due>
-    ensures value { IfOk result (λ file. Gives (F.held shelf.old) FileKind.Zmx name.now zmx_cause prescription (lens_file file)) }
+    ensures value { IfOk result
+        (λ file. Gives (F.held shelf.old) FileKind.Zmx name.now zmx_cause prescription
+        (lens_file file)) }
     ensures sound { IfOk result (λ file. IsSound file.lens) }
-    ensures none { IfErr result (λ due. GivesNone (F.held shelf.old) FileKind.Zmx name.now zmx_cause prescription due) }
+    ensures none { IfErr result
+        (λ due. GivesNone (F.held shelf.old) FileKind.Zmx name.now zmx_cause prescription due) }
     ensures asks { Takes (F.asked shelf.old) (F.asked shelf.new) (name.now ∷ []) }
     ensures held { F.held shelf.new ≡ F.held shelf.old }
     ensures counts { IsCounted (ended result) 1 (F.faults shelf.old) (F.faults shelf.new)
@@ -65,8 +68,10 @@ pub fn lens_of<F: Shelf>(alloc: Global, shelf: &mut F, name: &[u8]) -> Result<Zm
 
 /// The glasses of a catalogue.
 pub fn book_of<F: Shelf>(alloc: Global, shelf: &mut F, name: &[u8]) -> Result<GlassBook, Due>
-    ensures value { IfOk result (λ book. Gives (F.held shelf.old) FileKind.Agf name.now agf_cause catalogue book) }
-    ensures none { IfErr result (λ due. GivesNone (F.held shelf.old) FileKind.Agf name.now agf_cause catalogue due) }
+    ensures value { IfOk result
+        (λ book. Gives (F.held shelf.old) FileKind.Agf name.now agf_cause catalogue book) }
+    ensures none { IfErr result
+        (λ due. GivesNone (F.held shelf.old) FileKind.Agf name.now agf_cause catalogue due) }
     ensures asks { Takes (F.asked shelf.old) (F.asked shelf.new) (name.now ∷ []) }
     ensures held { F.held shelf.new ≡ F.held shelf.old }
     ensures counts { IsCounted (ended result) 1 (F.faults shelf.old) (F.faults shelf.new)
@@ -81,9 +86,11 @@ pub fn book_of<F: Shelf>(alloc: Global, shelf: &mut F, name: &[u8]) -> Result<Gl
 
 /// The job of a file.
 pub fn job_of<F: Shelf>(alloc: Global, shelf: &mut F, name: &[u8]) -> Result<Job, Due>
-    ensures value { IfOk result (λ asked. Gives (F.held shelf.old) FileKind.Job name.now job_cause job asked) }
+    ensures value { IfOk result
+        (λ asked. Gives (F.held shelf.old) FileKind.Job name.now job_cause job asked) }
     ensures sound { IfOk result IsInRange }
-    ensures none { IfErr result (λ due. GivesNone (F.held shelf.old) FileKind.Job name.now job_cause job due) }
+    ensures none { IfErr result
+        (λ due. GivesNone (F.held shelf.old) FileKind.Job name.now job_cause job due) }
     ensures asks { Takes (F.asked shelf.old) (F.asked shelf.new) (name.now ∷ []) }
     ensures held { F.held shelf.new ≡ F.held shelf.old }
     ensures counts { IsCounted (ended result) 1 (F.faults shelf.old) (F.faults shelf.new)
@@ -103,9 +110,13 @@ pub fn box_of<F: Shelf>(
     name: &[u8],
     surfaces: u32,
 ) -> Result<TolBox, Due>
-    ensures value { IfOk result (λ toler. Gives (F.held shelf.old) FileKind.Tol name.now tol_cause (λ bytes. tolerance_box bytes (surfaces - 1)) toler) }
+    ensures value { IfOk result
+        (λ toler. Gives (F.held shelf.old) FileKind.Tol name.now tol_cause
+        (λ bytes. tolerance_box bytes (surfaces - 1)) toler) }
     ensures sound { IfOk result (λ toler. IsBox (surfaces - 1) toler.list.items) }
-    ensures none { IfErr result (λ due. GivesNone (F.held shelf.old) FileKind.Tol name.now tol_cause (λ bytes. tolerance_box bytes (surfaces - 1)) due) }
+    ensures none { IfErr result
+        (λ due. GivesNone (F.held shelf.old) FileKind.Tol name.now tol_cause
+        (λ bytes. tolerance_box bytes (surfaces - 1)) due) }
     ensures asks { Takes (F.asked shelf.old) (F.asked shelf.new) (name.now ∷ []) }
     ensures held { F.held shelf.new ≡ F.held shelf.old }
     ensures counts { IsCounted (ended result) 1 (F.faults shelf.old) (F.faults shelf.new)

@@ -31,8 +31,10 @@ const ZERO: Dec = Dec { mant: 0, exp: 0 };
 /// the job. No memory is taken.
 pub(crate) fn write_first<K: Sink>(s: &Setup, job: &Job, out: &mut K) -> Result<(), Failed>
     requires well { IsWellFormed s.now }
-    ensures ok { OnOk result (Takes (K.taken out.old) (K.taken out.new) (first_text s.now job.now)) }
-    ensures front { OnErr result (TakesFront (K.taken out.old) (K.taken out.new) (first_text s.now job.now)) }
+    ensures ok { OnOk result
+        (Takes (K.taken out.old) (K.taken out.new) (first_text s.now job.now)) }
+    ensures front { OnErr result
+        (TakesFront (K.taken out.old) (K.taken out.new) (first_text s.now job.now)) }
     ensures failed { OnErr result (Rose (K.faults out.old) (K.faults out.new)) }
     ensures taken { OnOk result (K.faults out.new ≡ K.faults out.old) }
     // Every paraxial chain lies in the printed intervals.
@@ -53,8 +55,12 @@ fn gather_trails<K: Sink>(
     out: &mut K,
 ) -> Result<(), Failed>
     requires well { IsWellFormed s.now }
-    ensures ok { OnOk result (Gathers (K.taken out.old) (K.taken out.new) piece.new.bytes (piece.old.bytes ++ trails s.now 1 (firsts asks.now))) }
-    ensures front { OnErr result (TakesFront (K.taken out.old) (K.taken out.new) (piece.old.bytes ++ trails s.now 1 (firsts asks.now))) }
+    ensures ok { OnOk result
+        (Gathers (K.taken out.old) (K.taken out.new) piece.new.bytes
+        (piece.old.bytes ++ trails s.now 1 (firsts asks.now))) }
+    ensures front { OnErr result
+        (TakesFront (K.taken out.old) (K.taken out.new)
+        (piece.old.bytes ++ trails s.now 1 (firsts asks.now))) }
     ensures failed { OnErr result (Rose (K.faults out.old) (K.faults out.new)) }
     ensures taken { OnOk result (K.faults out.new ≡ K.faults out.old) }
     ensures holds { OnOk result (All (FirstHolds s.now) (firsts asks.now)) }
@@ -78,8 +84,12 @@ fn gather_trail<K: Sink>(
 ) -> Result<(), Failed>
     requires low { 1 ≤ values.now.scale }
     requires high { values.now.scale ≤ 15 }
-    ensures ok { OnOk result (Gathers (K.taken out.old) (K.taken out.new) piece.new.bytes (piece.old.bytes ++ first_trail i values.now)) }
-    ensures front { OnErr result (TakesFront (K.taken out.old) (K.taken out.new) (piece.old.bytes ++ first_trail i values.now)) }
+    ensures ok { OnOk result
+        (Gathers (K.taken out.old) (K.taken out.new) piece.new.bytes
+        (piece.old.bytes ++ first_trail i values.now)) }
+    ensures front { OnErr result
+        (TakesFront (K.taken out.old) (K.taken out.new)
+        (piece.old.bytes ++ first_trail i values.now)) }
     ensures failed { OnErr result (Rose (K.faults out.old) (K.faults out.new)) }
     ensures taken { OnOk result (K.faults out.new ≡ K.faults out.old) }
 {
@@ -99,8 +109,12 @@ fn gather_heights<K: Sink>(
     requires low { 1 ≤ scale }
     requires high { scale ≤ 15 }
     requires few { length trail.now ≤ 64 }
-    ensures ok { OnOk result (Gathers (K.taken out.old) (K.taken out.new) piece.new.bytes (piece.old.bytes ++ trail_lines scale 1 trail.now)) }
-    ensures front { OnErr result (TakesFront (K.taken out.old) (K.taken out.new) (piece.old.bytes ++ trail_lines scale 1 trail.now)) }
+    ensures ok { OnOk result
+        (Gathers (K.taken out.old) (K.taken out.new) piece.new.bytes
+        (piece.old.bytes ++ trail_lines scale 1 trail.now)) }
+    ensures front { OnErr result
+        (TakesFront (K.taken out.old) (K.taken out.new)
+        (piece.old.bytes ++ trail_lines scale 1 trail.now)) }
     ensures failed { OnErr result (Rose (K.faults out.old) (K.faults out.new)) }
     ensures taken { OnOk result (K.faults out.new ≡ K.faults out.old) }
 {

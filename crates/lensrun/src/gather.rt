@@ -19,17 +19,22 @@ use std::alloc::Global;
 /// What a call is due to write: takes the words, reads the files that they name, and checks them.
 pub fn gather<F: Shelf>(alloc: Global, words: &[Vec<u8>], shelf: &mut F) -> Due
     // The answer of the words and the files, unless the outside decides.
-    ensures due { IsDueOf (F.held shelf.old) (top.command_of (map (λ w. w.items) words.now)) result }
+    ensures due { IsDueOf (F.held shelf.old) (top.command_of (map (λ w. w.items) words.now))
+        result }
     ensures ready { IsReady result }
-    ensures usage { top.command_of (map (λ w. w.items) words.now) ≡ None → due_answer result ≡ answer Status.Usage usage_line }
+    ensures usage { top.command_of (map (λ w. w.items) words.now) ≡ None
+        → due_answer result ≡ answer Status.Usage usage_line }
 
     // The shelf is asked for the files of the command alone, in their order, and isn't touched where
     // there is none.
-    ensures asks { TakesFront (F.asked shelf.old) (F.asked shelf.new) (names_of (top.command_of (map (λ w. w.items) words.now))) }
-    ensures untouched { top.command_of (map (λ w. w.items) words.now) ≡ None → shelf.new ≡ shelf.old }
+    ensures asks { TakesFront (F.asked shelf.old) (F.asked shelf.new)
+        (names_of (top.command_of (map (λ w. w.items) words.now))) }
+    ensures untouched { top.command_of (map (λ w. w.items) words.now) ≡ None
+        → shelf.new ≡ shelf.old }
 
     // Each end has its cause in what the shelf counts, and nothing else is counted.
-    ensures counts { IsCounted (Some (due_answer result).status) (length (names_of (top.command_of (map (λ w. w.items) words.now))))
+    ensures counts { IsCounted (Some (due_answer result).status)
+        (length (names_of (top.command_of (map (λ w. w.items) words.now))))
         (F.faults shelf.old) (F.faults shelf.new) (F.absences shelf.old) (F.absences shelf.new) (F.given shelf.old) (F.given shelf.new) }
 {
     let Some(command) = command_of(words) else {

@@ -27,12 +27,18 @@ fn box_if<F: Shelf>(
     name: Option<&[u8]>,
     surfaces: u32,
 ) -> Result<Option<TolBox>, Due>
-    ensures value { IfOk result (λ toler. GivesBox (F.held shelf.old) (surfaces - 1) (option_map (λ t. t.now) name.entry) toler) }
+    ensures value { IfOk result
+        (λ toler. GivesBox (F.held shelf.old) (surfaces - 1) (option_map (λ t. t.now) name.entry)
+        toler) }
     ensures sound { IfOk result (λ toler. IsBox (surfaces - 1) (values.tolerances toler)) }
-    ensures none { IfErr result (λ due. GivesNoBox (F.held shelf.old) (surfaces - 1) (option_map (λ t. t.now) name.entry) due) }
-    ensures asks { Takes (F.asked shelf.old) (F.asked shelf.new) (map (λ file. file.1) (box_named (option_map (λ t. t.now) name.entry))) }
+    ensures none { IfErr result
+        (λ due. GivesNoBox (F.held shelf.old) (surfaces - 1) (option_map (λ t. t.now) name.entry)
+        due) }
+    ensures asks { Takes (F.asked shelf.old) (F.asked shelf.new)
+        (map (λ file. file.1) (box_named (option_map (λ t. t.now) name.entry))) }
     ensures held { F.held shelf.new ≡ F.held shelf.old }
-    ensures counts { IsCounted (ended result) (length (box_named (option_map (λ t. t.now) name.entry)))
+    ensures counts { IsCounted (ended result)
+        (length (box_named (option_map (λ t. t.now) name.entry)))
         (F.faults shelf.old) (F.faults shelf.new) (F.absences shelf.old) (F.absences shelf.new) (F.given shelf.old) (F.given shelf.new) }
 {
     match name {
@@ -48,11 +54,13 @@ pub fn setup_of<F: Shelf>(
     shelf: &mut F,
     names: &Inputs<'_>,
 ) -> Result<(Setup, Job), Due>
-    ensures setup { IfOk result (λ v. OfFiles (F.held shelf.old) (λ files. MakesSetup files (inputs names.now) v.0 v.1)) }
+    ensures setup { IfOk result
+        (λ v. OfFiles (F.held shelf.old) (λ files. MakesSetup files (inputs names.now) v.0 v.1)) }
     ensures well { IfOk result (λ v. IsWellFormed v.0) }
     ensures range { IfOk result (λ v. IsInRange v.1) }
     ensures none { IfErr result (λ due. MakesNone (F.held shelf.old) (inputs names.now) due) }
-    ensures asks { TakesFront (F.asked shelf.old) (F.asked shelf.new) (map (λ file. file.1) (inputs_named (inputs names.now))) }
+    ensures asks { TakesFront (F.asked shelf.old) (F.asked shelf.new)
+        (map (λ file. file.1) (inputs_named (inputs names.now))) }
     ensures counts { IsCounted (ended result) (length (inputs_named (inputs names.now)))
         (F.faults shelf.old) (F.faults shelf.new) (F.absences shelf.old) (F.absences shelf.new) (F.given shelf.old) (F.given shelf.new) }
 {

@@ -68,7 +68,8 @@ pub(crate) fn write_json<K: Sink, L: Ledger>(
     requires well { IsWellFormed s.now }
     requires range { IsInRange job.now }
     ensures ok { OnOk result (Takes (K.taken out.old) (K.taken out.new) (json_text s.now job.now)) }
-    ensures front { OnErr result (TakesFront (K.taken out.old) (K.taken out.new) (json_text s.now job.now)) }
+    ensures front { OnErr result
+        (TakesFront (K.taken out.old) (K.taken out.new) (json_text s.now job.now)) }
     ensures failed { IsErrOf result Unwritten.Failed → Rose (K.faults out.old) (K.faults out.new) }
     ensures taken { ¬ IsErrOf result Unwritten.Failed → K.faults out.new ≡ K.faults out.old }
     // Every chain lies in the printed intervals, and every word holds.
@@ -90,8 +91,12 @@ fn write_asks<K: Sink>(
     requires ready { IsPreparedFor lens.now.setup.now lens.now.bench.now }
     requires asks { All (λ a. IsTrue (is_ask a)) asks.now }
     requires rays { launches.job_count asks.now ≤ 10_000 }
-    ensures ok { OnOk result (Gathers (K.taken out.old) (K.taken out.new) [] (json_lines 1 (map (rays.row lens.now.setup.now) (launches.job_launches asks.now)))) }
-    ensures front { OnErr result (TakesFront (K.taken out.old) (K.taken out.new) (json_lines 1 (map (rays.row lens.now.setup.now) (launches.job_launches asks.now)))) }
+    ensures ok { OnOk result
+        (Gathers (K.taken out.old) (K.taken out.new) []
+        (json_lines 1 (map (rays.row lens.now.setup.now) (launches.job_launches asks.now)))) }
+    ensures front { OnErr result
+        (TakesFront (K.taken out.old) (K.taken out.new)
+        (json_lines 1 (map (rays.row lens.now.setup.now) (launches.job_launches asks.now)))) }
     ensures failed { IsErrOf result Unwritten.Failed → Rose (K.faults out.old) (K.faults out.new) }
     ensures taken { ¬ IsErrOf result Unwritten.Failed → K.faults out.new ≡ K.faults out.old }
     ensures holds { OnOk result (AllHold lens.now.setup.now (launches.job_launches asks.now)) }
@@ -115,8 +120,12 @@ fn write_rows<K: Sink>(
     requires ready { IsPreparedFor lens.now.setup.now lens.now.bench.now }
     requires ask { IsTrue (is_ask ask.now) }
     requires few { first + launches.count ask.now ≤ 10_001 }
-    ensures ok { OnOk result (Gathers (K.taken out.old) (K.taken out.new) [] (json_lines first (rows_of lens.now.setup.now ask.now))) }
-    ensures front { OnErr result (TakesFront (K.taken out.old) (K.taken out.new) (json_lines first (rows_of lens.now.setup.now ask.now))) }
+    ensures ok { OnOk result
+        (Gathers (K.taken out.old) (K.taken out.new) []
+        (json_lines first (rows_of lens.now.setup.now ask.now))) }
+    ensures front { OnErr result
+        (TakesFront (K.taken out.old) (K.taken out.new)
+        (json_lines first (rows_of lens.now.setup.now ask.now))) }
     ensures failed { IsErrOf result Unwritten.Failed → Rose (K.faults out.old) (K.faults out.new) }
     ensures taken { ¬ IsErrOf result Unwritten.Failed → K.faults out.new ≡ K.faults out.old }
     ensures holds { OnOk result (AllHold lens.now.setup.now (launches.launches ask.now)) }

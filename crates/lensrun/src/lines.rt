@@ -76,8 +76,12 @@ pub fn gather_surfaces<K: Sink>(
     piece: &mut Piece,
     out: &mut K,
 ) -> Result<(), Failed>
-    ensures ok { OnOk result (Gathers (K.taken out.old) (K.taken out.new) piece.new.bytes (piece.old.bytes ++ concat (surface_lines lens.now.surfaces.items))) }
-    ensures front { OnErr result (TakesFront (K.taken out.old) (K.taken out.new) (piece.old.bytes ++ concat (surface_lines lens.now.surfaces.items))) }
+    ensures ok { OnOk result
+        (Gathers (K.taken out.old) (K.taken out.new) piece.new.bytes
+        (piece.old.bytes ++ concat (surface_lines lens.now.surfaces.items))) }
+    ensures front { OnErr result
+        (TakesFront (K.taken out.old) (K.taken out.new)
+        (piece.old.bytes ++ concat (surface_lines lens.now.surfaces.items))) }
     ensures failed { OnErr result (Rose (K.faults out.old) (K.faults out.new)) }
     ensures taken { OnOk result (K.faults out.new ≡ K.faults out.old) }
 {

@@ -25,8 +25,12 @@ fn gather_places<K: Sink>(
     requires high { scale ≤ 15 }
     requires first { first ≤ 64 }
     requires few { length places.now ≤ 64 }
-    ensures ok { OnOk result (Gathers (K.taken out.old) (K.taken out.new) piece.new.bytes (piece.old.bytes ++ all_places scale first places.now)) }
-    ensures front { OnErr result (TakesFront (K.taken out.old) (K.taken out.new) (piece.old.bytes ++ all_places scale first places.now)) }
+    ensures ok { OnOk result
+        (Gathers (K.taken out.old) (K.taken out.new) piece.new.bytes
+        (piece.old.bytes ++ all_places scale first places.now)) }
+    ensures front { OnErr result
+        (TakesFront (K.taken out.old) (K.taken out.new)
+        (piece.old.bytes ++ all_places scale first places.now)) }
     ensures failed { OnErr result (Rose (K.faults out.old) (K.faults out.new)) }
     ensures taken { OnOk result (K.faults out.new ≡ K.faults out.old) }
 {
@@ -50,8 +54,12 @@ pub(crate) fn gather_ray<K: Sink>(
 ) -> Result<(), Failed>
     requires low { 1 ≤ row.now.scale }
     requires high { row.now.scale ≤ 15 }
-    ensures ok { OnOk result (Gathers (K.taken out.old) (K.taken out.new) piece.new.bytes (piece.old.bytes ++ ray_lines single i row.now)) }
-    ensures front { OnErr result (TakesFront (K.taken out.old) (K.taken out.new) (piece.old.bytes ++ ray_lines single i row.now)) }
+    ensures ok { OnOk result
+        (Gathers (K.taken out.old) (K.taken out.new) piece.new.bytes
+        (piece.old.bytes ++ ray_lines single i row.now)) }
+    ensures front { OnErr result
+        (TakesFront (K.taken out.old) (K.taken out.new)
+        (piece.old.bytes ++ ray_lines single i row.now)) }
     ensures failed { OnErr result (Rose (K.faults out.old) (K.faults out.new)) }
     ensures taken { OnOk result (K.faults out.new ≡ K.faults out.old) }
 {

@@ -34,8 +34,11 @@ pub trait Lines {
 
 /// Adds a line to what is gathered, which is written before where there is no room beside it.
 pub fn gather_line<K: Sink>(line: &Line, piece: &mut Piece, out: &mut K) -> Result<(), Failed>
-    ensures ok { OnOk result (Gathers (K.taken out.old) (K.taken out.new) piece.new.bytes (piece.old.bytes ++ line.now.bytes)) }
-    ensures front { OnErr result (TakesFront (K.taken out.old) (K.taken out.new) (piece.old.bytes ++ line.now.bytes)) }
+    ensures ok { OnOk result
+        (Gathers (K.taken out.old) (K.taken out.new) piece.new.bytes
+        (piece.old.bytes ++ line.now.bytes)) }
+    ensures front { OnErr result
+        (TakesFront (K.taken out.old) (K.taken out.new) (piece.old.bytes ++ line.now.bytes)) }
     ensures failed { OnErr result (Rose (K.faults out.old) (K.faults out.new)) }
     ensures taken { OnOk result (K.faults out.new ≡ K.faults out.old) }
 {
@@ -53,8 +56,12 @@ pub fn gather_lines<L: Lines, K: Sink>(
     piece: &mut Piece,
     out: &mut K,
 ) -> Result<(), Failed>
-    ensures ok { OnOk result (Gathers (K.taken out.old) (K.taken out.new) piece.new.bytes (piece.old.bytes ++ concat (L.lines lines.now))) }
-    ensures front { OnErr result (TakesFront (K.taken out.old) (K.taken out.new) (piece.old.bytes ++ concat (L.lines lines.now))) }
+    ensures ok { OnOk result
+        (Gathers (K.taken out.old) (K.taken out.new) piece.new.bytes
+        (piece.old.bytes ++ concat (L.lines lines.now))) }
+    ensures front { OnErr result
+        (TakesFront (K.taken out.old) (K.taken out.new)
+        (piece.old.bytes ++ concat (L.lines lines.now))) }
     ensures failed { OnErr result (Rose (K.faults out.old) (K.faults out.new)) }
     ensures taken { OnOk result (K.faults out.new ≡ K.faults out.old) }
 {

@@ -24,8 +24,10 @@ use seidel::sums::sums;
 /// taken.
 pub(crate) fn write_sums<K: Sink>(s: &Setup, job: &Job, out: &mut K) -> Result<(), Failed>
     requires well { IsWellFormed s.now }
-    ensures ok { OnOk result (Takes (K.taken out.old) (K.taken out.new) (seidel_text s.now job.now)) }
-    ensures front { OnErr result (TakesFront (K.taken out.old) (K.taken out.new) (seidel_text s.now job.now)) }
+    ensures ok { OnOk result
+        (Takes (K.taken out.old) (K.taken out.new) (seidel_text s.now job.now)) }
+    ensures front { OnErr result
+        (TakesFront (K.taken out.old) (K.taken out.new) (seidel_text s.now job.now)) }
     ensures failed { OnErr result (Rose (K.faults out.old) (K.faults out.new)) }
     ensures taken { OnOk result (K.faults out.new ≡ K.faults out.old) }
     // The sums of every pair of such rays lie in the printed intervals.
@@ -61,8 +63,12 @@ fn gather_sets<K: Sink>(
     out: &mut K,
 ) -> Result<(), Failed>
     requires well { IsWellFormed s.now }
-    ensures ok { OnOk result (Gathers (K.taken out.old) (K.taken out.new) piece.new.bytes (piece.old.bytes ++ sets s.now 1 (pairs asks.now))) }
-    ensures front { OnErr result (TakesFront (K.taken out.old) (K.taken out.new) (piece.old.bytes ++ sets s.now 1 (pairs asks.now))) }
+    ensures ok { OnOk result
+        (Gathers (K.taken out.old) (K.taken out.new) piece.new.bytes
+        (piece.old.bytes ++ sets s.now 1 (pairs asks.now))) }
+    ensures front { OnErr result
+        (TakesFront (K.taken out.old) (K.taken out.new)
+        (piece.old.bytes ++ sets s.now 1 (pairs asks.now))) }
     ensures failed { OnErr result (Rose (K.faults out.old) (K.faults out.new)) }
     ensures taken { OnOk result (K.faults out.new ≡ K.faults out.old) }
     ensures holds { OnOk result (All (SumsHold s.now) (pairs asks.now)) }
@@ -86,8 +92,12 @@ fn gather_set<K: Sink>(
 ) -> Result<(), Failed>
     requires low { 1 ≤ sums.now.scale }
     requires high { sums.now.scale ≤ 15 }
-    ensures ok { OnOk result (Gathers (K.taken out.old) (K.taken out.new) piece.new.bytes (piece.old.bytes ++ seidel_set i sums.now)) }
-    ensures front { OnErr result (TakesFront (K.taken out.old) (K.taken out.new) (piece.old.bytes ++ seidel_set i sums.now)) }
+    ensures ok { OnOk result
+        (Gathers (K.taken out.old) (K.taken out.new) piece.new.bytes
+        (piece.old.bytes ++ seidel_set i sums.now)) }
+    ensures front { OnErr result
+        (TakesFront (K.taken out.old) (K.taken out.new)
+        (piece.old.bytes ++ seidel_set i sums.now)) }
     ensures failed { OnErr result (Rose (K.faults out.old) (K.faults out.new)) }
     ensures taken { OnOk result (K.faults out.new ≡ K.faults out.old) }
 {
@@ -110,8 +120,12 @@ fn gather_surfaces<K: Sink>(
     requires low { 1 ≤ scale }
     requires high { scale ≤ 15 }
     requires few { length per.now ≤ 64 }
-    ensures ok { OnOk result (Gathers (K.taken out.old) (K.taken out.new) piece.new.bytes (piece.old.bytes ++ surface_sums scale 1 per.now)) }
-    ensures front { OnErr result (TakesFront (K.taken out.old) (K.taken out.new) (piece.old.bytes ++ surface_sums scale 1 per.now)) }
+    ensures ok { OnOk result
+        (Gathers (K.taken out.old) (K.taken out.new) piece.new.bytes
+        (piece.old.bytes ++ surface_sums scale 1 per.now)) }
+    ensures front { OnErr result
+        (TakesFront (K.taken out.old) (K.taken out.new)
+        (piece.old.bytes ++ surface_sums scale 1 per.now)) }
     ensures failed { OnErr result (Rose (K.faults out.old) (K.faults out.new)) }
     ensures taken { OnOk result (K.faults out.new ≡ K.faults out.old) }
 {

@@ -56,8 +56,10 @@ pub(crate) fn write_trace<K: Sink, L: Ledger>(
 ) -> Result<(), Failed>
     requires well { IsWellFormed s.now }
     requires range { IsInRange job.now }
-    ensures ok { OnOk result (Takes (K.taken out.old) (K.taken out.new) (trace_text s.now job.now)) }
-    ensures front { OnErr result (TakesFront (K.taken out.old) (K.taken out.new) (trace_text s.now job.now)) }
+    ensures ok { OnOk result
+        (Takes (K.taken out.old) (K.taken out.new) (trace_text s.now job.now)) }
+    ensures front { OnErr result
+        (TakesFront (K.taken out.old) (K.taken out.new) (trace_text s.now job.now)) }
     ensures failed { OnErr result (Rose (K.faults out.old) (K.faults out.new)) }
     ensures taken { OnOk result (K.faults out.new ≡ K.faults out.old) }
     // Every chain lies in the printed intervals, and every word holds.
@@ -89,11 +91,17 @@ fn gather_asks<K: Sink>(
     requires asks { All (λ a. IsTrue (is_ask a)) asks.now }
     requires rays { launches.job_count asks.now ≤ 10_000 }
     requires none { totals.old ≡ counts_of [] }
-    ensures ok { OnOk result (Gathers (K.taken out.old) (K.taken out.new) piece.new.bytes (piece.old.bytes ++ asks_lines lens.now.setup.now 1 asks.now)) }
-    ensures front { OnErr result (TakesFront (K.taken out.old) (K.taken out.new) (piece.old.bytes ++ asks_lines lens.now.setup.now 1 asks.now)) }
+    ensures ok { OnOk result
+        (Gathers (K.taken out.old) (K.taken out.new) piece.new.bytes
+        (piece.old.bytes ++ asks_lines lens.now.setup.now 1 asks.now)) }
+    ensures front { OnErr result
+        (TakesFront (K.taken out.old) (K.taken out.new)
+        (piece.old.bytes ++ asks_lines lens.now.setup.now 1 asks.now)) }
     ensures failed { OnErr result (Rose (K.faults out.old) (K.faults out.new)) }
     ensures taken { OnOk result (K.faults out.new ≡ K.faults out.old) }
-    ensures totals { OnOk result (totals.new ≡ counts_of (map (rays.row lens.now.setup.now) (launches.job_launches asks.now))) }
+    ensures totals { OnOk result
+        (totals.new ≡ counts_of
+        (map (rays.row lens.now.setup.now) (launches.job_launches asks.now))) }
     ensures holds { OnOk result (AllHold lens.now.setup.now (launches.job_launches asks.now)) }
 {
     let mut first = 1;
@@ -118,11 +126,16 @@ fn gather_ask<K: Sink>(
     requires ask { IsTrue (is_ask ask.now) }
     requires few { first + launches.count ask.now ≤ 10_001 }
     requires next { totals.old.rays + 1 ≡ first }
-    ensures ok { OnOk result (Gathers (K.taken out.old) (K.taken out.new) piece.new.bytes (piece.old.bytes ++ ask_lines lens.now.setup.now first ask.now)) }
-    ensures front { OnErr result (TakesFront (K.taken out.old) (K.taken out.new) (piece.old.bytes ++ ask_lines lens.now.setup.now first ask.now)) }
+    ensures ok { OnOk result
+        (Gathers (K.taken out.old) (K.taken out.new) piece.new.bytes
+        (piece.old.bytes ++ ask_lines lens.now.setup.now first ask.now)) }
+    ensures front { OnErr result
+        (TakesFront (K.taken out.old) (K.taken out.new)
+        (piece.old.bytes ++ ask_lines lens.now.setup.now first ask.now)) }
     ensures failed { OnErr result (Rose (K.faults out.old) (K.faults out.new)) }
     ensures taken { OnOk result (K.faults out.new ≡ K.faults out.old) }
-    ensures totals { OnOk result (CountsMore totals.old totals.new (rows_of lens.now.setup.now ask.now)) }
+    ensures totals { OnOk result
+        (CountsMore totals.old totals.new (rows_of lens.now.setup.now ask.now)) }
     ensures rays { OnOk result (totals.new.rays ≡ totals.old.rays + launches.count ask.now) }
     ensures holds { OnOk result (AllHold lens.now.setup.now (launches.launches ask.now)) }
 {
@@ -154,7 +167,8 @@ fn gather_rays<K: Sink>(
         (piece.old.bytes ++ rays_lines (report.is_single ask.now) first (rows_of lens.now.setup.now ask.now))) }
     ensures failed { OnErr result (Rose (K.faults out.old) (K.faults out.new)) }
     ensures taken { OnOk result (K.faults out.new ≡ K.faults out.old) }
-    ensures totals { OnOk result (CountsMore totals.old totals.new (rows_of lens.now.setup.now ask.now)) }
+    ensures totals { OnOk result
+        (CountsMore totals.old totals.new (rows_of lens.now.setup.now ask.now)) }
     ensures rays { OnOk result (totals.new.rays ≡ totals.old.rays + launches.count ask.now) }
     ensures tally { OnOk result (tally.new ≡ sums_of (rows_of lens.now.setup.now ask.now)) }
     ensures holds { OnOk result (AllHold lens.now.setup.now (launches.launches ask.now)) }
@@ -182,7 +196,8 @@ fn print_end(ask: &Ask, tally: &Tally, out: &mut Line)
     requires empty { out.old.bytes ≡ [] }
     requires ask { IsTrue (is_ask ask.now) }
     requires all { tally.now.rows ≡ launches.count ask.now }
-    ensures { (rows : List RowValue) → tally.now ≡ sums_of rows → out.new.bytes ≡ report.spot_end ask.now rows }
+    ensures { (rows : List RowValue) → tally.now ≡ sums_of rows
+        → out.new.bytes ≡ report.spot_end ask.now rows }
 {
     if let Ask::Spot { .. } = ask {
         print_spot(&spot(tally, count(ask)), out);
@@ -203,7 +218,8 @@ fn spot(tally: &Tally, rays: u32) -> Spot
 
 /// The statistics of the rays of a grid that pass, if any does.
 fn statistics(tally: &Tally) -> Option<Statistics>
-    ensures { (rows : List RowValue) → tally.now ≡ sums_of rows → result ≡ spots.statistics_if tally.now.passes rows }
+    ensures { (rows : List RowValue) → tally.now ≡ sums_of rows
+        → result ≡ spots.statistics_if tally.now.passes rows }
 {
     if tally.passes() == 0 {
         return None;

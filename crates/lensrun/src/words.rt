@@ -90,7 +90,8 @@ fn positive(word: &[u8]) -> Option<Dec>
 
 /// The words after `index`.
 fn index_words(words: &[Vec<u8>]) -> Option<Command<'_>>
-    ensures exact { asked_if result ≡ option_map top.index (index.index_words (map (λ w. w.items) words.now)) }
+    ensures exact { asked_if result
+        ≡ option_map top.index (index.index_words (map (λ w. w.items) words.now)) }
     ensures wave { IfSome result HasWavelength }
 {
     let [catalogue, glass, wave] = words else {
@@ -101,7 +102,9 @@ fn index_words(words: &[Vec<u8>]) -> Option<Command<'_>>
 
 /// A catalogue, a glass and a wavelength.
 fn index_command<'a>(catalogue: &'a [u8], glass: &[u8], wave: &[u8]) -> Option<Command<'a>>
-    ensures exact { asked_if result ≡ option_map top.index (index.index_if catalogue.now glass.now (index.positive_decimal wave.now)) }
+    ensures exact { asked_if result
+        ≡ option_map top.index
+        (index.index_if catalogue.now glass.now (index.positive_decimal wave.now)) }
     ensures wave { IfSome result HasWavelength }
 {
     let wave = positive(wave)?;
@@ -115,7 +118,8 @@ fn index_command<'a>(catalogue: &'a [u8], glass: &[u8], wave: &[u8]) -> Option<C
 
 /// The words after `glass`.
 fn glass_words(words: &[Vec<u8>]) -> Option<Command<'_>>
-    ensures exact { asked_if result ≡ option_map top.glass (glass.glass_words (map (λ w. w.items) words.now)) }
+    ensures exact { asked_if result
+        ≡ option_map top.glass (glass.glass_words (map (λ w. w.items) words.now)) }
     ensures wave { IfSome result HasWavelength }
 {
     let [catalogue] = words else {
@@ -128,7 +132,8 @@ fn glass_words(words: &[Vec<u8>]) -> Option<Command<'_>>
 
 /// The words after `read`.
 fn read_words(words: &[Vec<u8>]) -> Option<Command<'_>>
-    ensures exact { asked_if result ≡ option_map top.read (read.read_words (map (λ w. w.items) words.now)) }
+    ensures exact { asked_if result
+        ≡ option_map top.read (read.read_words (map (λ w. w.items) words.now)) }
     ensures wave { IfSome result HasWavelength }
 {
     let [lens] = words else {
@@ -158,7 +163,8 @@ fn input_names(words: &[Vec<u8>]) -> Option<Inputs<'_>>
 
 /// The words after `trace`.
 fn trace_words(words: &[Vec<u8>]) -> Option<Command<'_>>
-    ensures exact { asked_if result ≡ option_map top.trace (files.boxed_inputs (map (λ w. w.items) words.now)) }
+    ensures exact { asked_if result
+        ≡ option_map top.trace (files.boxed_inputs (map (λ w. w.items) words.now)) }
     ensures wave { IfSome result HasWavelength }
 {
     Some(Command::Trace(input_names(words)?))
@@ -166,7 +172,8 @@ fn trace_words(words: &[Vec<u8>]) -> Option<Command<'_>>
 
 /// The words after `trace-json`.
 fn json_words(words: &[Vec<u8>]) -> Option<Command<'_>>
-    ensures exact { asked_if result ≡ option_map top.trace_json (files.boxed_inputs (map (λ w. w.items) words.now)) }
+    ensures exact { asked_if result
+        ≡ option_map top.trace_json (files.boxed_inputs (map (λ w. w.items) words.now)) }
     ensures wave { IfSome result HasWavelength }
 {
     Some(Command::TraceJson(input_names(words)?))
@@ -189,7 +196,8 @@ fn three_names(words: &[Vec<u8>]) -> Option<Inputs<'_>>
 
 /// The words after `first`.
 fn first_words(words: &[Vec<u8>]) -> Option<Command<'_>>
-    ensures exact { asked_if result ≡ option_map top.first (files.three_inputs (map (λ w. w.items) words.now)) }
+    ensures exact { asked_if result
+        ≡ option_map top.first (files.three_inputs (map (λ w. w.items) words.now)) }
     ensures wave { IfSome result HasWavelength }
 {
     Some(Command::First(three_names(words)?))
@@ -197,7 +205,8 @@ fn first_words(words: &[Vec<u8>]) -> Option<Command<'_>>
 
 /// The words after `seidel`.
 fn seidel_words(words: &[Vec<u8>]) -> Option<Command<'_>>
-    ensures exact { asked_if result ≡ option_map top.seidel (files.three_inputs (map (λ w. w.items) words.now)) }
+    ensures exact { asked_if result
+        ≡ option_map top.seidel (files.three_inputs (map (λ w. w.items) words.now)) }
     ensures wave { IfSome result HasWavelength }
 {
     Some(Command::Seidel(three_names(words)?))

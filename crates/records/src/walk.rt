@@ -32,7 +32,8 @@ pub trait LineReader {
     fn take(&mut self, number: u32, line: &Line<'_>) -> Result<(), Self::Fault>
         ensures passed { OnOk result ((before : List Words) → IsAt before self.old
             → (offence self.old number before line.now ≡ None) × IsAt (before ++ line.now ∷ []) self.new) }
-        ensures fault { IfErr result (λ f. IsOfLines f → (before : List Words) → IsAt before self.old
+        ensures fault { IfErr result
+            (λ f. IsOfLines f → (before : List Words) → IsAt before self.old
             → offence self.old number before line.now ≡ Some f) }
         ensures same { OnOk result (offence self.new ≡ offence self.old) };
 }
@@ -40,7 +41,8 @@ pub trait LineReader {
 /// Takes all lines of a text, up to the first that offends.
 pub fn read_lines<R: LineReader>(text: &Text, reader: &mut R) -> Result<(), R::Fault>
     requires { R.IsAt [] reader.old }
-    ensures sound { OnOk result (first_offence (R.offence reader.old) 1 [] (each_line R.REMARKS text.now) ≡ None) }
+    ensures sound { OnOk result
+        (first_offence (R.offence reader.old) 1 [] (each_line R.REMARKS text.now) ≡ None) }
     ensures taken { OnOk result (R.IsAt (each_line R.REMARKS text.now) reader.new) }
     ensures same { OnOk result (R.offence reader.new ≡ R.offence reader.old) }
     ensures fault { IfErr result (λ f. R.IsOfLines f

@@ -15,7 +15,8 @@ const MAX_COUNT: usize = 32;
 /// Refuses a tolerance behind others that the lens whose last surface is `image` can't have.
 pub fn check(at: u32, tol: &Tol, image: u32, others: &[Tol]) -> Result<(), TolFault>
     ensures sound { OnOk result (first_fault (tol_faults image at others.now tol.now) ≡ None) }
-    ensures fault { IfErr result (λ f. first_fault (tol_faults image at others.now tol.now) ≡ Some f) }
+    ensures fault { IfErr result
+        (λ f. first_fault (tol_faults image at others.now tol.now) ≡ Some f) }
 {
     if tol.delta.mant < 0 {
         return Err(TolFault::Negative { line: at });

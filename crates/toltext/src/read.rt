@@ -29,7 +29,8 @@ pub fn read_tol(alloc: Global, bytes: &[u8], surfaces: u32) -> Result<TolBox, To
     // two at one value.
     ensures sound { IfOk result (λ b. IsBox (surfaces - 1) b.list.items) }
     // Each fault, and only where it stands.
-    ensures fault { IfErr result (λ f. f ≢ TolFault.Memory → tolerance_box bytes.now (surfaces - 1) ≡ Err f) }
+    ensures fault { IfErr result
+        (λ f. f ≢ TolFault.Memory → tolerance_box bytes.now (surfaces - 1) ≡ Err f) }
 {
     match decode(alloc, bytes) {
         Ok(text) => read_tolerances(&text, surfaces.saturating_sub(1)),

@@ -38,10 +38,13 @@ impl Reader {
     /// Appends the tolerance of a TOL line.
     fn append(&mut self, at: u32, line: &Line<'_>) -> Result<(), TolFault>
         requires { length line.now ≡ 4 }
-        ensures sound { OnOk result (line_fault self.old.image at self.old.list.items line.now ≡ None) }
-        ensures list { OnOk result (self.new.list.items ≡ self.old.list.items ++ tol_of line.now ∷ []) }
+        ensures sound { OnOk result
+            (line_fault self.old.image at self.old.list.items line.now ≡ None) }
+        ensures list { OnOk result
+            (self.new.list.items ≡ self.old.list.items ++ tol_of line.now ∷ []) }
         ensures image { self.new.image ≡ self.old.image }
-        ensures fault { IfErr result (λ f. line_fault self.old.image at self.old.list.items line.now ≡ Some f) }
+        ensures fault { IfErr result
+            (λ f. line_fault self.old.image at self.old.list.items line.now ≡ Some f) }
     {
         let tol = tolerance(at, line)?;
         check(at, &tol, self.image, self.list.as_slice())?;

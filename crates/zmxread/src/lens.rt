@@ -63,7 +63,8 @@ pub fn begin_surface(
     requires { 1 < length line.now }
     ensures surfaces { OnOk result (surfaces.new.items ≡ surfaces.old.items ++ plane ∷ []) }
     ensures sound { OnOk result (SURF_fault at (length surfaces.old.items) line.now ≡ None) }
-    ensures fault { IfErr result (λ f. SURF_fault at (length surfaces.old.items) line.now ≡ Some f) }
+    ensures fault { IfErr result
+        (λ f. SURF_fault at (length surfaces.old.items) line.now ≡ Some f) }
 {
     let number = index(line, at, 1)?;
     if number as usize != surfaces.len() {

@@ -52,7 +52,8 @@ fn text_fault(fault: TextFault) -> ZmxFault
 fn read_lens(alloc: Global, text: &Text) -> Result<ZmxFile, ZmxFault>
     ensures file { IfOk result (λ f. of_lines (each_words text.now) ≡ Ok (lens_file f)) }
     ensures sound { IfOk result (λ f. IsSound f.lens) }
-    ensures fault { IfErr result (λ f. f ≢ ZmxFault.Memory → of_lines (each_words text.now) ≡ Err f) }
+    ensures fault { IfErr result
+        (λ f. f ≢ ZmxFault.Memory → of_lines (each_words text.now) ≡ Err f) }
 {
     let mut reader = Reader::new(alloc);
     read_lines(text, &mut reader)?;

@@ -26,7 +26,8 @@ impl Model for Tags {
 
 /// Counts one more line of a tag.
 fn count_line(counts: &mut IndexMap<Name, u64>, tag: Name) -> Result<(), TagsFull>
-    ensures { OnOk result (pairs_of counts.new.entries ≡ with_one_more tag.items (pairs_of counts.old.entries)) }
+    ensures { OnOk result
+        (pairs_of counts.new.entries ≡ with_one_more tag.items (pairs_of counts.old.entries)) }
 {
     let Ok(entry) = counts.entry(tag) else {
         return Err(TagsFull);

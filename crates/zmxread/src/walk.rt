@@ -91,7 +91,8 @@ impl Reader {
         requires { is_of_lens line.now ≡ false }
         ensures passed { OnOk result ((before : List Words) → IsAt before self.old
             → (offence at before line.now ≡ None) × IsAt (before ++ line.now ∷ []) self.new) }
-        ensures fault { IfErr result (λ f. f ≢ ZmxFault.Memory → (before : List Words) → IsAt before self.old
+        ensures fault { IfErr result
+            (λ f. f ≢ ZmxFault.Memory → (before : List Words) → IsAt before self.old
             → offence at before line.now ≡ Some f) }
     {
         let count = self.lens.surfaces.len();
@@ -126,7 +127,8 @@ impl Reader {
 
     /// Counts a line whose tag isn't used.
     fn pass_over(&mut self, line: &Line<'_>) -> Result<(), ZmxFault>
-        ensures unused { OnOk result (self.new ≡ record self.old { unused = with_unused line.now self.old.unused }) }
+        ensures unused { OnOk result
+            (self.new ≡ record self.old { unused = with_unused line.now self.old.unused }) }
         ensures fault { IfErr result (λ f. f ≡ ZmxFault.Memory) }
     {
         match line.word(0) {

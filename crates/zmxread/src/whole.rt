@@ -27,7 +27,8 @@ fn inner_fault(surfaces: &[Surface]) -> Option<ZmxFault>
     requires some { 1 ≤ length surfaces.now }
     requires few { length surfaces.now ≤ 64 }
     requires written { All IsWrittenSurface surfaces.now }
-    ensures { result ≡ first_fault (faults.faults_from (length surfaces.now - 1) 1 (drop 1 surfaces.now)) }
+    ensures { result ≡ first_fault
+        (faults.faults_from (length surfaces.now - 1) 1 (drop 1 surfaces.now)) }
 {
     let image = surfaces.len() as u32 - 1;
     for j in 1..surfaces.len() {
