@@ -73,44 +73,60 @@ const SHELF: [File<'static>; 11] = [
     ("other", b"NM OTHER 1\nCD 2.25\n"),
 ];
 
-const ROWS: [(&str, Status, &str); 12] = [
-    ("first sphere flat rays", Status::Done, SPHERE_VALUES),
-    ("first early flat none", Status::Done, EARLY_VALUES),
-    ("first plane flat huge", Status::Done, PLANE_VALUES),
-    ("first folded flat rays", Status::Done, MIRROR_VALUES),
-    ("seidel sphere flat rays", Status::Done, SPHERE_SUMS),
-    ("seidel singlet flat rays", Status::Done, SINGLET_SUMS),
-    ("seidel plane flat huge", Status::Done, PLANE_SUMS),
-    ("seidel plane flat none", Status::Done, "seidel lines 0\n"),
-    (
-        "first sphere other rays",
-        Status::Refused,
-        "refused cross no-glass surface 1\n",
-    ),
-    (
-        "seidel sphere flat coarse",
-        Status::Refused,
-        "refused job range line 2\n",
-    ),
-    ("first sphere flat gone", Status::Absent, "absent job\n"),
-    ("seidel gone flat rays", Status::Absent, "absent zmx\n"),
+/// A line of words, and the text that is due.
+type Row = (&'static str, &'static str);
+
+const REPORTS: [Row; 8] = [
+    ("first sphere flat rays", SPHERE_VALUES),
+    ("first early flat none", EARLY_VALUES),
+    ("first plane flat huge", PLANE_VALUES),
+    ("first folded flat rays", MIRROR_VALUES),
+    ("seidel sphere flat rays", SPHERE_SUMS),
+    ("seidel singlet flat rays", SINGLET_SUMS),
+    ("seidel plane flat huge", PLANE_SUMS),
+    ("seidel plane flat none", "seidel lines 0\n"),
 ];
 
-fn table<R: Abort, L: Ledger>(rt: &R, alloc: Global, blank: Blank) -> Result<(), Fail>
+const REFUSALS: [Row; 2] = [
+    (
+        "first sphere other rays",
+        "refused cross no-glass surface 1\n",
+    ),
+    ("seidel sphere flat coarse", "refused job range line 2\n"),
+];
+
+const ABSENCES: [Row; 2] = [
+    ("first sphere flat gone", "absent job\n"),
+    ("seidel gone flat rays", "absent zmx\n"),
+];
+
+fn expect_all<R: Abort, L: Ledger>(
+    rt: &R,
+    alloc: Global,
+    status: Status,
+    rows: &[Row],
+    steps: &mut Steps<L>,
+) -> Result<(), Fail> {
+    for (line, text) in rows {
+        expect(rt, alloc, &SHELF, line, (status, text), steps)?;
+    }
+    Ok(())
+}
+
+fn tables<R: Abort, L: Ledger>(rt: &R, alloc: Global, blank: Blank) -> Result<(), Fail>
     requires name { blank.name ≡ L.name }
     requires parts { blank.parts ≡ L.parts }
     requires some { 0 < L.parts }
 {
     let mut steps = Steps::<L>::start(blank);
-    for (line, status, text) in ROWS {
-        expect(rt, alloc, &SHELF, line, (status, text), &mut steps)?;
-    }
-    Ok(())
+    expect_all(rt, alloc, Status::Done, &REPORTS, &mut steps)?;
+    expect_all(rt, alloc, Status::Absent, &ABSENCES, &mut steps)?;
+    expect_all(rt, alloc, Status::Refused, &REFUSALS, &mut steps)
 }
 
 #[test]
 fn values_sums_and_refusals(rt: HostRuntime) -> Result<(), Fail> {
-    table::<HostRuntime, Brand>(&rt, rt.alloc(), Blank::new(1))
+    tables::<HostRuntime, Brand>(&rt, rt.alloc(), Blank::new(1))
 }
 
 fn failing_sink<R: Abort, L: Ledger>(rt: &R, alloc: Global, blank: Blank) -> Result<(), Fail>
