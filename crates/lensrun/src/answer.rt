@@ -137,6 +137,7 @@ pub fn json_due<F: Shelf>(alloc: Global, shelf: &mut F, names: &Inputs<'_>) -> D
 }
 
 /// A lens with its job.
+#[inline(never)]
 fn paraxial<F: Shelf>(alloc: Global, shelf: &mut F, names: &Inputs<'_>) -> Result<Paraxial, Due>
     ensures given { IfOk result
         (λ p. OfFiles (F.held shelf.old)
