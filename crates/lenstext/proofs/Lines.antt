@@ -1,5 +1,5 @@
 -- The first line of a list of units, and what is left behind it.
-use Rattle.std.proofs.Common.{◌≡◌, ◌≢◌, ℕ, zero, suc, ◌+◌, ◌-◌, ◌<◌, ◌≤◌, Bool, List, [], ◌∷◌, length, get_or, take, drop, refl, ap, sym, ◌∙◌, arith, length-drop, get_or-drop, drop-drop}
+use Rattle.std.proofs.Common.{◌≡◌, ◌≢◌, ℕ, zero, suc, ◌+◌, ◌-◌, ◌<◌, ◌≤◌, Bool, List, [], ◌∷◌, length, get_or, take, drop, refl, ap, sym, ◌∙◌, arith, length-drop, get_or-drop, get_or-take, drop-drop}
 use Rattle.std.specs.Prelude.{if◌then◌else◌, slice_range}
 use Rattle.std.proofs.lemmas.Bool.{ne_eqb}
 use Rattle.lensmodel.specs.Files.TextLines.{lines, onto_first}
@@ -35,3 +35,10 @@ line_at us start end some after within before at =
     (λ k h e. before (start + k) (omega arith) (omega arith) (sym (get_or-drop start us k 0) ∙ e))
     (λ h. get_or-drop start us n 0 ∙ ap (λ (k : ℕ). get_or us k 0) (let e : start + n ≡ end = omega arith in e) ∙ at (omega arith))
     ∙ ap (λ (ls : List (List ℕ)). take n rest ∷ ls) (ap lines (drop-drop (suc n) start us ∙ ap (λ (k : ℕ). drop k us) (let e : start + suc n ≡ end + 1 = omega arith in e)))
+
+-- what stands in a range stands in the list
+pub in_range : (us : List ℕ) (a b k : ℕ) → a ≤ k → k < b → get_or (slice_range us a b) (k - a) 0 ≡ get_or us k 0
+in_range us a b k after before =
+    get_or-take (b - a) (drop a us) (k - a) 0 (omega arith)
+    ∙ get_or-drop a us (k - a) 0
+    ∙ ap (λ (i : ℕ). get_or us i 0) (let e : a + (k - a) ≡ k = omega arith in e)

@@ -1,6 +1,6 @@
 //! One line: where it ends, and what may be wrong with it.
 
-ghost use Rattle.std.specs.Prelude.{◌≡◌, ◌+◌, ◌<◌, ◌≤◌, ◌||◌, ◌∷◌, false, None, Some, drop, length, slice_range, IfErr, OnOk};
+ghost use Rattle.std.specs.Prelude.{ℕ, ◌≡◌, ◌+◌, ◌<◌, ◌≤◌, ◌||◌, ◌∷◌, ◌≢◌, false, None, Some, drop, get_or, length, slice_range, IfErr, OnOk};
 ghost use Rattle.std.specs.List.{list_any};
 ghost use Rattle.lensmodel.specs.Files.TextLines.{has_lone, is_high, is_low, line_fault, lines};
 
@@ -11,6 +11,35 @@ pub const LONGEST: usize = 4096;
 
 const LINE_FEED: u16 = 10;
 
+/// How many units are looked at in one step.
+const STEP: usize = 16;
+
+/// Whether there is a line feed. It looks at each unit alone, so that all of a step are looked at at
+/// once.
+fn has_line_feed(units: &[u16]) -> bool
+    ensures { result ≡ false → (k : ℕ) → k < length units.now → get_or units.now k 0 ≢ 10 }
+{
+    let mut found = false;
+    for unit in units {
+        found |= *unit == LINE_FEED;
+    }
+    found
+}
+
+/// Up to where, from `start` on, there is surely no line feed: some whole steps.
+fn without_line_feed(units: &[u16], start: usize) -> usize
+    requires { start ≤ length units.now }
+    ensures after { start ≤ result }
+    ensures within { result ≤ length units.now }
+    ensures none { (k : ℕ) → start ≤ k → k < result → get_or units.now k 0 ≢ 10 }
+{
+    let mut at = start;
+    while units.len() - at >= STEP && !has_line_feed(&units[at..at + STEP]) {
+        at += STEP;
+    }
+    at
+}
+
 /// Where the line that begins at `start` ends.
 pub fn line_end(units: &[u16], start: usize) -> usize
     requires { start < length units.now }
@@ -19,7 +48,7 @@ pub fn line_end(units: &[u16], start: usize) -> usize
     ensures line { lines (drop start units.now)
         ≡ slice_range units.now start result ∷ lines (drop (result + 1) units.now) }
 {
-    for at in start..units.len() {
+    for at in without_line_feed(units, start)..units.len() {
         if units[at] == LINE_FEED {
             return at;
         }
