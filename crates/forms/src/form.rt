@@ -40,9 +40,17 @@ impl<const S: u32> Model for Form<S> {
 
     ghost view = { λ f. record { centre = f.centre; coefficients = f.coefficients; radius = f.radius } };
 
-    ghost invariant = { λ f. IsHeld (record { centre = f.centre; coefficients = f.coefficients; radius = f.radius }) f.deviation f.used };
+    ghost invariant = { λ f.
+        IsHeld (record { centre = f.centre; coefficients = f.coefficients; radius = f.radius })
+        f.deviation f.used };
 
-    ghost inverse = { λ e. record { centre = e.centre; radius = e.radius; deviation = dev e; used = in_use e.coefficients; coefficients = e.coefficients } };
+    ghost inverse = { λ e. record {
+      centre = e.centre;
+      radius = e.radius;
+      deviation = dev e;
+      used = in_use e.coefficients;
+      coefficients = e.coefficients;
+    } };
 }
 
 impl<const S: u32> Form<S> {

@@ -119,7 +119,8 @@ impl Shelf for CalmShelf {
 // The place of the first file of a name.
 fn place_of(files: &[(Vec<u8>, Vec<u8>)], name: &[u8]) -> Option<usize>
     ensures { MatchOption result (first_named (files_in files.now) name.now ≡ None)
-        (λ i. IsSomeAnd (slice_get files.now i) (λ file. first_named (files_in files.now) name.now ≡ Some file.1.items)) }
+        (λ i. IsSomeAnd (slice_get files.now i)
+        (λ file. first_named (files_in files.now) name.now ≡ Some file.1.items)) }
 {
     for (i, file) in files.iter().enumerate() {
         if file.0.as_slice() == name {

@@ -99,7 +99,9 @@ pub fn answer<F: Shelf, K: Sink, L: Ledger>(
         → WritesWanting (F.held shelf.old) (said_in arguments) (K.taken out.old)
         (K.taken out.new)) }
     ensures complete { Ends result (λ status.
-        ¬ Rose (F.absences shelf.old) (F.absences shelf.new) → ¬ Rose (F.faults shelf.old) (F.faults shelf.new) → ¬ Rose (K.faults out.old) (K.faults out.new)
+        ¬ Rose (F.absences shelf.old) (F.absences shelf.new)
+        → ¬ Rose (F.faults shelf.old) (F.faults shelf.new)
+        → ¬ Rose (K.faults out.old) (K.faults out.new)
         → IsComplete (F.held shelf.old) (said_in arguments) status) }
 {
     let mut steps = Steps::<L>::start(blank);
