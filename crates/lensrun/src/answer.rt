@@ -137,6 +137,7 @@ pub fn json_due<F: Shelf>(alloc: Global, shelf: &mut F, names: &Inputs<'_>) -> D
 }
 
 /// A lens with its job.
+// Inlined into its callers, the moves of a setup of 63 KB keep LLVM from an end.
 #[inline(never)]
 fn paraxial<F: Shelf>(alloc: Global, shelf: &mut F, names: &Inputs<'_>) -> Result<Paraxial, Due>
     ensures given { IfOk result

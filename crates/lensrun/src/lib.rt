@@ -14,7 +14,5 @@ mod rays;
 mod report;
 pub mod run;
 mod sums;
-#[cfg(test)]
-mod tests;
 mod trace;
 pub mod words;

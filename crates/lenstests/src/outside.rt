@@ -2,10 +2,10 @@
 
 ghost use Rattle.std.specs.Prelude.{◌≡◌, ◌<◌};
 
-use crate::run::run;
-use crate::tests::{FLAT, FLAT_BOOK, FLAT_INDEX, File, answer, files, words};
+use crate::answers::{FLAT, FLAT_BOOK, FLAT_INDEX, File, answer, files, words};
 use lensio::memory::{CalmShelf, MemShelf, MemSink};
 use lensmodel::status::Status;
+use lensrun::run::run;
 use sagform::steps::Steps;
 use std::alloc::Global;
 use std::marker::Brand;

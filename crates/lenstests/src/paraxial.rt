@@ -3,8 +3,8 @@
 
 ghost use Rattle.std.specs.Prelude.{◌≡◌, ◌<◌};
 
-use crate::tests::outside::expect_failing_writes;
-use crate::tests::{FLAT, File, expect};
+use crate::answers::{Call, FLAT, File, PLANE, SPHERE, expect_all};
+use crate::outside::expect_failing_writes;
 use lensmodel::status::Status;
 use sagform::steps::Steps;
 use std::alloc::Global;
@@ -12,14 +12,6 @@ use std::marker::Brand;
 use std::process::Abort;
 use std::sync::ledger::{Blank, Ledger};
 use std::test::Fail;
-
-/// A plane stop, and the image behind it.
-const PLANE: &[u8] =
-    b"MODE SEQ\nSURF 0\n  DISZ INFINITY\nSURF 1\n  STOP\n  TYPE STANDARD\n  CURV 0\n  DISZ 4\nSURF 2\n  TYPE STANDARD\n";
-
-/// A sphere of radius 10 with glass behind it.
-const SPHERE: &[u8] =
-    b"MODE SEQ\nSURF 0\n  DISZ INFINITY\nSURF 1\n  STOP\n  TYPE STANDARD\n  CURV 0.1\n  DISZ 10\n  GLAS FLAT\nSURF 2\n  TYPE STANDARD\n";
 
 /// The sphere, with the object as stop.
 const EARLY: &[u8] =
@@ -73,10 +65,7 @@ const SHELF: [File<'static>; 11] = [
     ("other", b"NM OTHER 1\nCD 2.25\n"),
 ];
 
-/// A line of words, and the text that is due.
-type Row = (&'static str, &'static str);
-
-const REPORTS: [Row; 8] = [
+const REPORTS: [Call; 8] = [
     ("first sphere flat rays", SPHERE_VALUES),
     ("first early flat none", EARLY_VALUES),
     ("first plane flat huge", PLANE_VALUES),
@@ -87,7 +76,7 @@ const REPORTS: [Row; 8] = [
     ("seidel plane flat none", "seidel lines 0\n"),
 ];
 
-const REFUSALS: [Row; 2] = [
+const REFUSALS: [Call; 2] = [
     (
         "first sphere other rays",
         "refused cross no-glass surface 1\n",
@@ -95,23 +84,10 @@ const REFUSALS: [Row; 2] = [
     ("seidel sphere flat coarse", "refused job range line 2\n"),
 ];
 
-const ABSENCES: [Row; 2] = [
+const ABSENCES: [Call; 2] = [
     ("first sphere flat gone", "absent job\n"),
     ("seidel gone flat rays", "absent zmx\n"),
 ];
-
-fn expect_all<R: Abort, L: Ledger>(
-    rt: &R,
-    alloc: Global,
-    status: Status,
-    rows: &[Row],
-    steps: &mut Steps<L>,
-) -> Result<(), Fail> {
-    for (line, text) in rows {
-        expect(rt, alloc, &SHELF, line, (status, text), steps)?;
-    }
-    Ok(())
-}
 
 fn tables<R: Abort, L: Ledger>(rt: &R, alloc: Global, blank: Blank) -> Result<(), Fail>
     requires name { blank.name ≡ L.name }
@@ -119,9 +95,9 @@ fn tables<R: Abort, L: Ledger>(rt: &R, alloc: Global, blank: Blank) -> Result<()
     requires some { 0 < L.parts }
 {
     let mut steps = Steps::<L>::start(blank);
-    expect_all(rt, alloc, Status::Done, &REPORTS, &mut steps)?;
-    expect_all(rt, alloc, Status::Absent, &ABSENCES, &mut steps)?;
-    expect_all(rt, alloc, Status::Refused, &REFUSALS, &mut steps)
+    expect_all(rt, alloc, &SHELF, Status::Done, &REPORTS, &mut steps)?;
+    expect_all(rt, alloc, &SHELF, Status::Absent, &ABSENCES, &mut steps)?;
+    expect_all(rt, alloc, &SHELF, Status::Refused, &REFUSALS, &mut steps)
 }
 
 #[test]

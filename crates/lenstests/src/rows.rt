@@ -2,7 +2,7 @@
 
 ghost use Rattle.std.specs.Prelude.{◌≡◌, ◌<◌};
 
-use crate::tests::{FLAT, FLAT_BOOK, FLAT_INDEX, expect};
+use crate::answers::{FLAT, FLAT_BOOK, FLAT_INDEX, expect};
 use lensio::transfer::FILE_LIMIT;
 use lensmodel::status::Status;
 use sagform::steps::Steps;

@@ -3,8 +3,8 @@
 
 ghost use Rattle.std.specs.Prelude.{◌≡◌, ◌<◌};
 
-use crate::tests::outside::{expect_failing_writes, failing_reads};
-use crate::tests::{FLAT, File, expect};
+use crate::answers::{Call, FLAT, File, PLANE, SPHERE, expect_all};
+use crate::outside::{expect_failing_writes, failing_reads};
 use lensmodel::status::Status;
 use sagform::steps::Steps;
 use std::alloc::Global;
@@ -13,19 +13,11 @@ use std::process::Abort;
 use std::sync::ledger::{Blank, Ledger};
 use std::test::Fail;
 
-/// A plane stop, and the image behind it.
-const PLANE: &[u8] =
-    b"MODE SEQ\nSURF 0\n  DISZ INFINITY\nSURF 1\n  STOP\n  TYPE STANDARD\n  CURV 0\n  DISZ 4\nSURF 2\n  TYPE STANDARD\n";
-
 /// A ray through the vertex.
 const SLANT: &[u8] = b"WAVE 0.5\nRAY 0 0 0 0.75\n";
 
 /// The image up to 0.1 nearer or farther.
 const THICK: &[u8] = b"TOL THIC 1 0.1\n";
-
-/// A sphere of radius 10 with glass behind it.
-const SPHERE: &[u8] =
-    b"MODE SEQ\nSURF 0\n  DISZ INFINITY\nSURF 1\n  STOP\n  TYPE STANDARD\n  CURV 0.1\n  DISZ 10\n  GLAS FLAT\nSURF 2\n  TYPE STANDARD\n";
 
 /// The plane, with glass before it.
 const IMMERSED: &[u8] =
@@ -124,10 +116,7 @@ const SHELF: [File<'static>; 24] = [
     ("index", b"TOL INDX 1 0\n"),
 ];
 
-/// A line of words, and the text that is due.
-type Row = (&'static str, &'static str);
-
-const REPORTS: [Row; 15] = [
+const REPORTS: [Call; 15] = [
     ("trace plane flat slant", SLANT_ROWS),
     ("trace-json plane flat slant", SLANT_JSON),
     ("trace plane flat loose thick", BOX_ROWS),
@@ -148,7 +137,7 @@ const REPORTS: [Row; 15] = [
     ("trace-json plane flat none", ""),
 ];
 
-const ABSENCES: [Row; 6] = [
+const ABSENCES: [Call; 6] = [
     ("trace gone flat slant", "absent zmx\n"),
     ("trace plane gone slant", "absent agf\n"),
     ("trace plane flat gone", "absent job\n"),
@@ -157,7 +146,7 @@ const ABSENCES: [Row; 6] = [
     ("trace-json plane flat slant gone", "absent tol\n"),
 ];
 
-const REFUSALS: [Row; 13] = [
+const REFUSALS: [Call; 13] = [
     (
         "trace crowd flat slant",
         "refused zmx too-many-surfaces line 66\n",
@@ -203,29 +192,15 @@ const REFUSALS: [Row; 13] = [
     ),
 ];
 
-/// Asserts of each line of words how it ends, and what it writes.
-fn expect_all<R: Abort, L: Ledger>(
-    rt: &R,
-    alloc: Global,
-    status: Status,
-    rows: &[Row],
-    steps: &mut Steps<L>,
-) -> Result<(), Fail> {
-    for (line, text) in rows {
-        expect(rt, alloc, &SHELF, line, (status, text), steps)?;
-    }
-    Ok(())
-}
-
 fn tables<R: Abort, L: Ledger>(rt: &R, alloc: Global, blank: Blank) -> Result<(), Fail>
     requires name { blank.name ≡ L.name }
     requires parts { blank.parts ≡ L.parts }
     requires some { 0 < L.parts }
 {
     let mut steps = Steps::<L>::start(blank);
-    expect_all(rt, alloc, Status::Done, &REPORTS, &mut steps)?;
-    expect_all(rt, alloc, Status::Absent, &ABSENCES, &mut steps)?;
-    expect_all(rt, alloc, Status::Refused, &REFUSALS, &mut steps)
+    expect_all(rt, alloc, &SHELF, Status::Done, &REPORTS, &mut steps)?;
+    expect_all(rt, alloc, &SHELF, Status::Absent, &ABSENCES, &mut steps)?;
+    expect_all(rt, alloc, &SHELF, Status::Refused, &REFUSALS, &mut steps)
 }
 
 #[test]
