@@ -45,7 +45,10 @@ pub(crate) fn media(
     requires { length surfaces.now ≤ 64 }
     ensures { result ≡ ok_unless
         (first_fault (each_from (checks.glass_fault book.now) 0 surfaces.now))
-        (record { items = map (λ f. unwrap_or (joining.medium_behind book.now f) Air) surfaces.now }) }
+        (record {
+          items = map
+              (λ f. unwrap_or (joining.medium_behind book.now f) Air) surfaces.now;
+        }) }
 {
     let mut media: ArrayVec<Medium, 64> = ArrayVec::new();
     for (j, surface) in surfaces.iter().enumerate() {

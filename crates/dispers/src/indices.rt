@@ -91,7 +91,8 @@ pub(crate) fn check_mirrors(s: &Setup) -> Result<(), CrossFault>
     requires surfaces { length s.now.lens.surfaces.items ≤ 64 }
     ensures { let surfaces = joining.before_image s.now.lens in
         let tolerances = values.tolerances s.now.toler in
-        result ≡ ok_unless (first_fault (each_from (checks.mirror_fault tolerances) 0 surfaces)) tt }
+        result ≡ ok_unless (first_fault
+        (each_from (checks.mirror_fault tolerances) 0 surfaces)) tt }
 {
     for (j, surface) in before_image(&s.lens).iter().enumerate() {
         if surface.mirror && has_index_tolerance(tolerances(&s.toler), j as u32) {

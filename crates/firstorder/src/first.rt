@@ -83,9 +83,11 @@ fn rows_of<const S: u32>(s: &Setup, y: &Dec, u: &Dec) -> Attempt
     requires scale { S ≤ 15 }
     requires well { IsWellFormed s.now }
     ensures out { result.out
-        ≡ (rows.first_attempt (operations S) S s.now (units_of_residual S s.now.res) y.now u.now).out }
+        ≡ (rows.first_attempt (operations S) S s.now
+        (units_of_residual S s.now.res) y.now u.now).out }
     ensures by_range { result.by_range
-        ≡ (rows.first_attempt (operations S) S s.now (units_of_residual S s.now.res) y.now u.now).by_range }
+        ≡ (rows.first_attempt (operations S) S s.now
+        (units_of_residual S s.now.res) y.now u.now).by_range }
 {
     let zero = Dec { mant: 0, exp: 0 };
     let one = Dec { mant: 1, exp: 0 };
@@ -106,9 +108,11 @@ fn values_at_scale<const S: u32>(s: &Setup, y: &Dec, u: &Dec) -> Attempt
     requires scale { S ≤ 15 }
     requires well { IsWellFormed s.now }
     ensures out { result.out
-        ≡ (rows.first_attempt (operations S) S s.now (units_of_residual S s.now.res) y.now u.now).out }
+        ≡ (rows.first_attempt (operations S) S s.now
+        (units_of_residual S s.now.res) y.now u.now).out }
     ensures by_range { result.by_range
-        ≡ (rows.first_attempt (operations S) S s.now (units_of_residual S s.now.res) y.now u.now).by_range }
+        ≡ (rows.first_attempt (operations S) S s.now
+        (units_of_residual S s.now.res) y.now u.now).by_range }
     ensures encloses { (c : FirstChain) → IsFirstChain s.now y.now u.now c
         → HoldsFirst s.now result.out c }
 {

@@ -38,7 +38,11 @@ impl<const S: u32> Model for Form<S> {
 
     ghost Value = { LinearForm };
 
-    ghost view = { λ f. record { centre = f.centre; coefficients = f.coefficients; radius = f.radius } };
+    ghost view = { λ f. record {
+      centre = f.centre;
+      coefficients = f.coefficients;
+      radius = f.radius;
+    } };
 
     ghost invariant = { λ f.
         IsHeld (record { centre = f.centre; coefficients = f.coefficients; radius = f.radius })

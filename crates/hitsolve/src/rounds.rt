@@ -36,10 +36,24 @@ impl<T> Model for Points<T> {
     ghost Value = { rows.Points T };
 
     ghost view = { λ k.
-        record { x = k.x; mid_x = k.mid_x; y = k.y; mid_y = k.mid_y; rho = k.rho; mid_rho = k.mid_rho } };
+        record {
+          x = k.x;
+          mid_x = k.mid_x;
+          y = k.y;
+          mid_y = k.mid_y;
+          rho = k.rho;
+          mid_rho = k.mid_rho;
+        } };
 
     ghost inverse = { λ k.
-        record { x = k.x; mid_x = k.mid_x; y = k.y; mid_y = k.mid_y; rho = k.rho; mid_rho = k.mid_rho } };
+        record {
+          x = k.x;
+          mid_x = k.mid_x;
+          y = k.y;
+          mid_y = k.mid_y;
+          rho = k.rho;
+          mid_rho = k.mid_rho;
+        } };
 }
 
 /// The conic at the middle of the window: its w and its sag.

@@ -20,7 +20,8 @@ use records::number::is_whole;
 pub fn ray(line: &Line<'_>, at: u32) -> Result<Ask, JobFault>
     requires { length line.now ≡ 5 }
     ensures value { IfOk result (λ a. a ≡ Ask.Ray
-        (decimal_at 1 line.now) (decimal_at 2 line.now) (decimal_at 3 line.now) (decimal_at 4 line.now)) }
+        (decimal_at 1 line.now) (decimal_at 2 line.now) (decimal_at 3 line.now)
+        (decimal_at 4 line.now)) }
     ensures sound { OnOk result (decimals_offence at 4 line.now ≡ None) }
     ensures fault { IfErr result (λ f. decimals_offence at 4 line.now ≡ Some f) }
 {
@@ -32,7 +33,8 @@ pub fn ray(line: &Line<'_>, at: u32) -> Result<Ask, JobFault>
 pub fn aim(line: &Line<'_>, at: u32, pupil: Option<Pupil>) -> Result<Ask, JobFault>
     requires { length line.now ≡ 5 }
     ensures value { IfOk result (λ a. option_map (λ s. Ask.Aim
-        (decimal_at 1 line.now) (decimal_at 2 line.now) (decimal_at 3 line.now) (decimal_at 4 line.now) s.z s.r)
+        (decimal_at 1 line.now) (decimal_at 2 line.now) (decimal_at 3 line.now)
+        (decimal_at 4 line.now) s.z s.r)
         pupil ≡ Some a) }
     ensures sound { OnOk result (aim_fault at (is_some pupil) line.now ≡ None) }
     ensures fault { IfErr result (λ f. aim_fault at (is_some pupil) line.now ≡ Some f) }
@@ -48,7 +50,8 @@ pub fn aim(line: &Line<'_>, at: u32, pupil: Option<Pupil>) -> Result<Ask, JobFau
 pub fn fan(line: &Line<'_>, at: u32, pupil: Option<Pupil>) -> Result<Ask, JobFault>
     requires { length line.now ≡ 4 }
     ensures value { IfOk result (λ a. option_map (λ s. Ask.Fan
-        (decimal_at 1 line.now) (decimal_at 2 line.now) (number_at 3 line.now) s.z s.r) pupil ≡ Some a) }
+        (decimal_at 1 line.now) (decimal_at 2 line.now) (number_at 3 line.now) s.z s.r) pupil
+        ≡ Some a) }
     ensures sound { OnOk result (spread_fault at is_fan (is_some pupil) line.now ≡ None) }
     ensures fault { IfErr result (λ f. spread_fault at is_fan (is_some pupil) line.now ≡ Some f) }
 {
@@ -60,7 +63,8 @@ pub fn fan(line: &Line<'_>, at: u32, pupil: Option<Pupil>) -> Result<Ask, JobFau
 pub fn spot(line: &Line<'_>, at: u32, pupil: Option<Pupil>) -> Result<Ask, JobFault>
     requires { length line.now ≡ 4 }
     ensures value { IfOk result (λ a. option_map (λ s. Ask.Spot
-        (decimal_at 1 line.now) (decimal_at 2 line.now) (number_at 3 line.now) s.z s.r) pupil ≡ Some a) }
+        (decimal_at 1 line.now) (decimal_at 2 line.now) (number_at 3 line.now) s.z s.r) pupil
+        ≡ Some a) }
     ensures sound { OnOk result (spread_fault at is_grid (is_some pupil) line.now ≡ None) }
     ensures fault { IfErr result (λ f. spread_fault at is_grid (is_some pupil) line.now ≡ Some f) }
 {
@@ -118,7 +122,8 @@ pub fn first(line: &Line<'_>, at: u32) -> Result<Ask, JobFault>
 pub fn seidel(line: &Line<'_>, at: u32) -> Result<Ask, JobFault>
     requires { length line.now ≡ 5 }
     ensures value { IfOk result (λ a. a ≡ Ask.Seidel
-        (decimal_at 1 line.now) (decimal_at 2 line.now) (decimal_at 3 line.now) (decimal_at 4 line.now)) }
+        (decimal_at 1 line.now) (decimal_at 2 line.now) (decimal_at 3 line.now)
+        (decimal_at 4 line.now)) }
     ensures sound { OnOk result (decimals_offence at 4 line.now ≡ None) }
     ensures fault { IfErr result (λ f. decimals_offence at 4 line.now ≡ Some f) }
 {

@@ -165,7 +165,12 @@ impl Model for MemShelf {
 
     ghost Value = { MemFiles };
 
-    ghost view = { λ s. record { calm = s.calm; fails = s.fails.items; calls = s.calls; faults = s.faults } };
+    ghost view = { λ s. record {
+      calm = s.calm;
+      fails = s.fails.items;
+      calls = s.calls;
+      faults = s.faults;
+    } };
 }
 
 impl MemShelf {
@@ -174,7 +179,13 @@ impl MemShelf {
     pub fn new(files: Vec<(Vec<u8>, Vec<u8>)>, fails: Vec<u64>, piece: usize) -> MemShelf
         requires { 1 ≤ piece }
         ensures { result ≡ record {
-          calm = record { files = files_in files.items; piece = piece; left = []; absences = 0; given = 0 };
+          calm = record {
+            files = files_in files.items;
+            piece = piece;
+            left = [];
+            absences = 0;
+            given = 0;
+          };
           fails = fails.items;
           calls = 0;
           faults = 0;
@@ -278,7 +289,8 @@ impl Model for CalmSink {
       piece = s.piece;
     } };
 
-    ghost invariant = { λ s. (1 ≤ s.piece) × (vec_len s.bytes ≤ s.room) × (s.room ≤ vec_capacity s.bytes) };
+    ghost invariant = { λ s. (1 ≤ s.piece) × (vec_len s.bytes ≤ s.room)
+        × (s.room ≤ vec_capacity s.bytes) };
 }
 
 impl CalmSink {

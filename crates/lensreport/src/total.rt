@@ -37,7 +37,8 @@ impl Model for Totals {
       lost = t.lost;
     } };
 
-    ghost invariant = { λ t. (t.passes ≤ t.rays) × (t.vignetted ≤ t.rays) × (t.outside ≤ t.rays) × (t.tir ≤ t.rays)
+    ghost invariant = { λ t. (t.passes ≤ t.rays) × (t.vignetted ≤ t.rays) × (t.outside ≤ t.rays)
+        × (t.tir ≤ t.rays)
         × (t.undecided ≤ t.rays) × (t.wide ≤ t.rays) × (t.lost ≤ t.rays) };
 }
 

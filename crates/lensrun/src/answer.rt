@@ -93,7 +93,8 @@ fn tracing<F: Shelf>(alloc: Global, shelf: &mut F, names: &Inputs<'_>) -> Result
     ensures asks { TakesFront (F.asked shelf.old) (F.asked shelf.new)
         (map (λ file. file.1) (inputs_named (inputs names.now))) }
     ensures counts { IsCounted (ended result) (length (inputs_named (inputs names.now)))
-        (F.faults shelf.old) (F.faults shelf.new) (F.absences shelf.old) (F.absences shelf.new) (F.given shelf.old) (F.given shelf.new) }
+        (F.faults shelf.old) (F.faults shelf.new) (F.absences shelf.old) (F.absences shelf.new)
+        (F.given shelf.old) (F.given shelf.new) }
 {
     let Ok(bench) = Bench::room(alloc) else {
         return Err(Due::Nothing);
@@ -112,7 +113,8 @@ pub fn trace_due<F: Shelf>(alloc: Global, shelf: &mut F, names: &Inputs<'_>) -> 
         (map (λ file. file.1) (inputs_named (inputs names.now))) }
     ensures counts { IsCounted (Some (due_answer result).status)
         (length (inputs_named (inputs names.now)))
-        (F.faults shelf.old) (F.faults shelf.new) (F.absences shelf.old) (F.absences shelf.new) (F.given shelf.old) (F.given shelf.new) }
+        (F.faults shelf.old) (F.faults shelf.new) (F.absences shelf.old) (F.absences shelf.new)
+        (F.given shelf.old) (F.given shelf.new) }
 {
     match tracing(alloc, shelf, names) {
         Ok(tracing) => Due::Trace(tracing),
@@ -128,7 +130,8 @@ pub fn json_due<F: Shelf>(alloc: Global, shelf: &mut F, names: &Inputs<'_>) -> D
         (map (λ file. file.1) (inputs_named (inputs names.now))) }
     ensures counts { IsCounted (Some (due_answer result).status)
         (length (inputs_named (inputs names.now)))
-        (F.faults shelf.old) (F.faults shelf.new) (F.absences shelf.old) (F.absences shelf.new) (F.given shelf.old) (F.given shelf.new) }
+        (F.faults shelf.old) (F.faults shelf.new) (F.absences shelf.old) (F.absences shelf.new)
+        (F.given shelf.old) (F.given shelf.new) }
 {
     match tracing(alloc, shelf, names) {
         Ok(tracing) => Due::TraceJson(tracing),
@@ -148,7 +151,8 @@ fn paraxial<F: Shelf>(alloc: Global, shelf: &mut F, names: &Inputs<'_>) -> Resul
     ensures asks { TakesFront (F.asked shelf.old) (F.asked shelf.new)
         (map (λ file. file.1) (inputs_named (inputs names.now))) }
     ensures counts { IsCounted (ended result) (length (inputs_named (inputs names.now)))
-        (F.faults shelf.old) (F.faults shelf.new) (F.absences shelf.old) (F.absences shelf.new) (F.given shelf.old) (F.given shelf.new) }
+        (F.faults shelf.old) (F.faults shelf.new) (F.absences shelf.old) (F.absences shelf.new)
+        (F.given shelf.old) (F.given shelf.new) }
 {
     match setup_of(alloc, shelf, names) {
         Ok((setup, job)) => Ok(Paraxial { setup, job }),
@@ -164,7 +168,8 @@ pub fn first_due<F: Shelf>(alloc: Global, shelf: &mut F, names: &Inputs<'_>) -> 
         (map (λ file. file.1) (inputs_named (inputs names.now))) }
     ensures counts { IsCounted (Some (due_answer result).status)
         (length (inputs_named (inputs names.now)))
-        (F.faults shelf.old) (F.faults shelf.new) (F.absences shelf.old) (F.absences shelf.new) (F.given shelf.old) (F.given shelf.new) }
+        (F.faults shelf.old) (F.faults shelf.new) (F.absences shelf.old) (F.absences shelf.new)
+        (F.given shelf.old) (F.given shelf.new) }
 {
     match paraxial(alloc, shelf, names) {
         Ok(paraxial) => Due::First(paraxial),
@@ -180,7 +185,8 @@ pub fn seidel_due<F: Shelf>(alloc: Global, shelf: &mut F, names: &Inputs<'_>) ->
         (map (λ file. file.1) (inputs_named (inputs names.now))) }
     ensures counts { IsCounted (Some (due_answer result).status)
         (length (inputs_named (inputs names.now)))
-        (F.faults shelf.old) (F.faults shelf.new) (F.absences shelf.old) (F.absences shelf.new) (F.given shelf.old) (F.given shelf.new) }
+        (F.faults shelf.old) (F.faults shelf.new) (F.absences shelf.old) (F.absences shelf.new)
+        (F.given shelf.old) (F.given shelf.new) }
 {
     match paraxial(alloc, shelf, names) {
         Ok(paraxial) => Due::Seidel(paraxial),

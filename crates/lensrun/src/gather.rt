@@ -35,7 +35,8 @@ pub fn gather<F: Shelf>(alloc: Global, words: &[Vec<u8>], shelf: &mut F) -> Due
     // Each end has its cause in what the shelf counts, and nothing else is counted.
     ensures counts { IsCounted (Some (due_answer result).status)
         (length (names_of (top.command_of (map (λ w. w.items) words.now))))
-        (F.faults shelf.old) (F.faults shelf.new) (F.absences shelf.old) (F.absences shelf.new) (F.given shelf.old) (F.given shelf.new) }
+        (F.faults shelf.old) (F.faults shelf.new) (F.absences shelf.old) (F.absences shelf.new)
+        (F.given shelf.old) (F.given shelf.new) }
 {
     let Some(command) = command_of(words) else {
         return usage();

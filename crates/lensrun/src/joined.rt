@@ -39,7 +39,8 @@ fn box_if<F: Shelf>(
     ensures held { F.held shelf.new ≡ F.held shelf.old }
     ensures counts { IsCounted (ended result)
         (length (box_named (option_map (λ t. t.now) name.entry)))
-        (F.faults shelf.old) (F.faults shelf.new) (F.absences shelf.old) (F.absences shelf.new) (F.given shelf.old) (F.given shelf.new) }
+        (F.faults shelf.old) (F.faults shelf.new) (F.absences shelf.old) (F.absences shelf.new)
+        (F.given shelf.old) (F.given shelf.new) }
 {
     match name {
         Some(name) => Ok(Some(box_of(alloc, shelf, name, surfaces)?)),
@@ -62,7 +63,8 @@ pub fn setup_of<F: Shelf>(
     ensures asks { TakesFront (F.asked shelf.old) (F.asked shelf.new)
         (map (λ file. file.1) (inputs_named (inputs names.now))) }
     ensures counts { IsCounted (ended result) (length (inputs_named (inputs names.now)))
-        (F.faults shelf.old) (F.faults shelf.new) (F.absences shelf.old) (F.absences shelf.new) (F.given shelf.old) (F.given shelf.new) }
+        (F.faults shelf.old) (F.faults shelf.new) (F.absences shelf.old) (F.absences shelf.new)
+        (F.given shelf.old) (F.given shelf.new) }
 {
     let file = lens_of(alloc, shelf, names.lens)?;
     let book = book_of(alloc, shelf, names.catalogue)?;

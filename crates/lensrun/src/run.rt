@@ -52,7 +52,8 @@ pub fn run<F: Shelf, K: Sink, L: Ledger>(
         → RoseBy (FILE_LIMIT + 1) (F.given shelf.old) (F.given shelf.new) }
     ensures too_long_where { let files = length
         (names_of (command_of (map (λ w. w.items) words.now))) in
-        F.given shelf.old + files * FILE_LIMIT < F.given shelf.new → (result ≡ Status.TooLong) ⊎ (result ≡ Status.WriteFault) }
+        F.given shelf.old + files * FILE_LIMIT < F.given shelf.new → (result ≡ Status.TooLong)
+        ⊎ (result ≡ Status.WriteFault) }
     ensures write_fault { result ≡ Status.WriteFault → Rose (K.faults out.old) (K.faults out.new) }
     ensures calm { result ≢ Status.ReadFault → result ≢ Status.WriteFault
         → F.faults shelf.new ≡ F.faults shelf.old }
@@ -66,13 +67,16 @@ pub fn run<F: Shelf, K: Sink, L: Ledger>(
         → WritesReadFault (F.held shelf.old) said (K.taken out.old) (K.taken out.new) }
     ensures front { let said = map (λ w. w.items) words.now in result ≡ Status.WriteFault →
         WritesDueFront (F.held shelf.old) said (K.taken out.old) (K.taken out.new)
-        ⊎ (Rose (F.faults shelf.old) (F.faults shelf.new) × WritesReadFaultFront (F.held shelf.old) said (K.taken out.old) (K.taken out.new)) }
+        ⊎ (Rose (F.faults shelf.old) (F.faults shelf.new)
+        × WritesReadFaultFront (F.held shelf.old) said (K.taken out.old) (K.taken out.new)) }
     ensures silent { let said = map (λ w. w.items) words.now in result ≡ Status.Memory
         → WritesWanting (F.held shelf.old) said (K.taken out.old) (K.taken out.new) }
 
     // Where nothing of the outside fails, a report that is due is written, unless memory is wanting.
     ensures complete { let said = map (λ w. w.items) words.now in
-        ¬ Rose (F.absences shelf.old) (F.absences shelf.new) → ¬ Rose (F.faults shelf.old) (F.faults shelf.new) → ¬ Rose (K.faults out.old) (K.faults out.new)
+        ¬ Rose (F.absences shelf.old) (F.absences shelf.new)
+        → ¬ Rose (F.faults shelf.old) (F.faults shelf.new)
+        → ¬ Rose (K.faults out.old) (K.faults out.new)
         → IsComplete (F.held shelf.old) said result }
 {
     let due = gather(alloc, words, shelf);

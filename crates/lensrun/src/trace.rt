@@ -162,9 +162,11 @@ fn gather_rays<K: Sink>(
     requires next { totals.old.rays + 1 ≡ first }
     requires none { tally.old ≡ sums_of [] }
     ensures ok { OnOk result (Gathers (K.taken out.old) (K.taken out.new) piece.new.bytes
-        (piece.old.bytes ++ rays_lines (report.is_single ask.now) first (rows_of lens.now.setup.now ask.now))) }
+        (piece.old.bytes ++ rays_lines (report.is_single ask.now) first
+        (rows_of lens.now.setup.now ask.now))) }
     ensures front { OnErr result (TakesFront (K.taken out.old) (K.taken out.new)
-        (piece.old.bytes ++ rays_lines (report.is_single ask.now) first (rows_of lens.now.setup.now ask.now))) }
+        (piece.old.bytes ++ rays_lines (report.is_single ask.now) first
+        (rows_of lens.now.setup.now ask.now))) }
     ensures failed { OnErr result (Rose (K.faults out.old) (K.faults out.new)) }
     ensures taken { OnOk result (K.faults out.new ≡ K.faults out.old) }
     ensures totals { OnOk result

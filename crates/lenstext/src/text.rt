@@ -31,7 +31,8 @@ impl Model for Text {
 
     ghost view = { λ t. cut 0 t.units.items t.ends.items };
 
-    ghost invariant = { λ t. Fits 0 (length t.units.items) t.ends.items × (length t.ends.items < 2 ^ 32) };
+    ghost invariant = { λ t. Fits 0 (length t.units.items) t.ends.items
+        × (length t.ends.items < 2 ^ 32) };
 }
 
 /// The lines of a file. Bytes FF FE begin UTF-16, little endian, and EF BB BF are passed over; in

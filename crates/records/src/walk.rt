@@ -31,7 +31,8 @@ pub trait LineReader {
     /// Takes the next line, by its number from 1.
     fn take(&mut self, number: u32, line: &Line<'_>) -> Result<(), Self::Fault>
         ensures passed { OnOk result ((before : List Words) → IsAt before self.old
-            → (offence self.old number before line.now ≡ None) × IsAt (before ++ line.now ∷ []) self.new) }
+            → (offence self.old number before line.now ≡ None)
+            × IsAt (before ++ line.now ∷ []) self.new) }
         ensures fault { IfErr result
             (λ f. IsOfLines f → (before : List Words) → IsAt before self.old
             → offence self.old number before line.now ≡ Some f) }

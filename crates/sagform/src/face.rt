@@ -39,9 +39,25 @@ pub struct Face<T: Arith> {
 impl<T: Arith> Model for Face<T> {
     ghost Value = { Prepared T };
 
-    ghost view = { λ f. record { kind = f.kind; d = f.d; c = f.c; kappa = f.kappa; ck = f.ck; n = f.n; n2 = f.n2; rim2 = f.rim2; zone2 = f.zone2; norm = f.norm; b = f.b; sign = f.sign; mirror = f.mirror } };
+    ghost view = { λ f. record {
+      kind = f.kind;
+      d = f.d;
+      c = f.c;
+      kappa = f.kappa;
+      ck = f.ck;
+      n = f.n;
+      n2 = f.n2;
+      rim2 = f.rim2;
+      zone2 = f.zone2;
+      norm = f.norm;
+      b = f.b;
+      sign = f.sign;
+      mirror = f.mirror;
+    } };
 
-    ghost invariant = { λ f. (neg_ℤ (pos 6) ≤ℤ f.norm) × (f.norm ≤ℤ pos 6) × HasZone T.ops.hull f.kind f.zone2 × (f.wide_c ≡ T.ops.widen f.c f.e) × (f.n_square ≡ T.ops.square f.n) × IfSome f.n2 (λ n2. f.n2_square ≡ T.ops.square n2) };
+    ghost invariant = { λ f. (neg_ℤ (pos 6) ≤ℤ f.norm) × (f.norm ≤ℤ pos 6)
+        × HasZone T.ops.hull f.kind f.zone2 × (f.wide_c ≡ T.ops.widen f.c f.e)
+        × (f.n_square ≡ T.ops.square f.n) × IfSome f.n2 (λ n2. f.n2_square ≡ T.ops.square n2) };
 }
 
 impl<T: Arith> Face<T> {

@@ -30,9 +30,25 @@ pub struct Ray<T> {
 impl<T> Model for Ray<T> {
     ghost Value = { Incoming T };
 
-    ghost view = { λ r. record { x = r.x; y = r.y; z = r.z; l = r.l; m = r.m; n = r.n; path = r.path } };
+    ghost view = { λ r. record {
+      x = r.x;
+      y = r.y;
+      z = r.z;
+      l = r.l;
+      m = r.m;
+      n = r.n;
+      path = r.path;
+    } };
 
-    ghost inverse = { λ r. record { x = r.x; y = r.y; z = r.z; l = r.l; m = r.m; n = r.n; path = r.path } };
+    ghost inverse = { λ r. record {
+      x = r.x;
+      y = r.y;
+      z = r.z;
+      l = r.l;
+      m = r.m;
+      n = r.n;
+      path = r.path;
+    } };
 }
 
 /// The point where a ray meets a surface, from the surface's vertex.
@@ -57,7 +73,14 @@ impl<T> Model for Hit<T> {
 
     ghost view = { λ h. record { x = h.x; y = h.y; z = h.z; rho = h.rho; w = h.w; path = h.path } };
 
-    ghost inverse = { λ h. record { x = h.x; y = h.y; z = h.z; rho = h.rho; w = h.w; path = h.path } };
+    ghost inverse = { λ h. record {
+      x = h.x;
+      y = h.y;
+      z = h.z;
+      rho = h.rho;
+      w = h.w;
+      path = h.path;
+    } };
 }
 
 /// The direction cosines of a ray.

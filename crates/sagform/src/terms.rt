@@ -26,5 +26,6 @@ impl<T: Arith> Model for Terms<T> {
 
     ghost view = { λ f. f.b1 ∷ f.b2 ∷ f.b3 ∷ f.b4 ∷ f.b5 ∷ f.b6 ∷ f.b7 ∷ f.b8 ∷ [] };
 
-    ghost invariant = { λ f. AreZeroFrom T.ops f.used (f.b1 ∷ f.b2 ∷ f.b3 ∷ f.b4 ∷ f.b5 ∷ f.b6 ∷ f.b7 ∷ f.b8 ∷ []) };
+    ghost invariant = { λ f. AreZeroFrom T.ops f.used
+        (f.b1 ∷ f.b2 ∷ f.b3 ∷ f.b4 ∷ f.b5 ∷ f.b6 ∷ f.b7 ∷ f.b8 ∷ []) };
 }

@@ -401,7 +401,8 @@ pub(crate) fn s5_of<T: Arith>(
     requires low { pos 0 ≤ℤ e }
     requires high { InCap e }
     ensures { worked result ≡ surfaces.s5_of T.ops T.SCALE row
-        (worked k8) (worked y) (worked yb) (worked bb) (worked ab) (worked dn2) (worked p) (worked h) e }
+        (worked k8) (worked y) (worked yb) (worked bb) (worked ab) (worked dn2) (worked p)
+        (worked h) e }
 {
     let answer = s5_if(
         k8.step(),

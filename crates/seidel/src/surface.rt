@@ -106,7 +106,13 @@ impl<T> Model for Sums<T> {
       s5 = worked v.s5;
     } };
 
-    ghost inverse = { λ v. record { s1 = kept v.s1; s2 = kept v.s2; s3 = kept v.s3; s4 = kept v.s4; s5 = kept v.s5 } };
+    ghost inverse = { λ v. record {
+      s1 = kept v.s1;
+      s2 = kept v.s2;
+      s3 = kept v.s3;
+      s4 = kept v.s4;
+      s5 = kept v.s5;
+    } };
 
     ghost inverse_ok = { λ v h. Prim.rw (
       kept_worked v.s1,

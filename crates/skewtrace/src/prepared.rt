@@ -47,7 +47,10 @@ impl<T: Arith> Model for Prepared<T> {
 
     ghost Value = { Faces T };
 
-    ghost view = { λ p. record { list = map step_of p.faces.items; spare = vec_capacity p.faces - vec_len p.faces } };
+    ghost view = { λ p. record {
+      list = map step_of p.faces.items;
+      spare = vec_capacity p.faces - vec_len p.faces;
+    } };
 }
 
 /// Prepares all surfaces, each once, into room that is there.

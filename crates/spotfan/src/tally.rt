@@ -33,7 +33,13 @@ pub struct Tally {
 impl Model for Tally {
     ghost Value = { Sums };
 
-    ghost view = { λ t. record { rows = t.rows; passes = t.passes; x = t.x; y = t.y; squares = t.squares } };
+    ghost view = { λ t. record {
+      rows = t.rows;
+      passes = t.passes;
+      x = t.x;
+      y = t.y;
+      squares = t.squares;
+    } };
 
     ghost invariant = { λ t. (t.passes ≤ t.rows) × (t.rows ≤ 10_000)
         × IsSumIf t.passes t.x × IsSumIf t.passes t.y × IsSumIf t.passes t.squares };
