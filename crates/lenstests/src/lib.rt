@@ -4,6 +4,8 @@
 #[cfg(test)]
 mod answers;
 #[cfg(test)]
+mod crossed;
+#[cfg(test)]
 mod outside;
 #[cfg(test)]
 mod paraxial;
