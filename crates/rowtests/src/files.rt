@@ -1,15 +1,19 @@
 //! A lens, a job and a box, read and joined.
 
-ghost use Rattle.std.specs.Prelude.{IfSome};
-ghost use Rattle.lensmodel.specs.Setup.WellFormed.{IsInRange, IsWellFormed};
+ghost use Rattle.std.specs.Prelude.{◌-◌, IfOk, IfSome};
+ghost use Rattle.lensmodel.specs.Setup.Values as values;
+ghost use Rattle.lensmodel.specs.Setup.WellFormed.{IsBox, IsInRange, IsSound, IsWellFormed};
 
 use agfread::read::read_agf;
 use dispers::join::join;
 use jobtext::read::read_job;
+use lensmodel::fault::TolFault;
 use lensmodel::job::Job;
 use lensmodel::setup::Setup;
+use lensmodel::tolerance::TolBox;
 use std::alloc::Global;
 use toltext::read::read_tol;
+use zmxread::file::ZmxFile;
 use zmxread::read::read_zmx;
 
 /// Glasses whose index has the same square at every wavelength.
@@ -24,19 +28,50 @@ pub(crate) struct Texts {
     pub(crate) tolerances: Option<&'static str>,
 }
 
+fn lens_of(alloc: Global, text: &str) -> Option<ZmxFile>
+    ensures { IfSome result (λ f. IsSound f.lens) }
+{
+    match read_zmx(alloc, text.as_bytes()) {
+        Ok(file) => Some(file),
+        Err(_) => None,
+    }
+}
+
+fn job_of(alloc: Global, text: &str) -> Option<Job>
+    ensures { IfSome result IsInRange }
+{
+    match read_job(alloc, text.as_bytes()) {
+        Ok(job) => Some(job),
+        Err(_) => None,
+    }
+}
+
+/// The box of a text, if there is one, for a lens of so many surfaces.
+fn box_of(alloc: Global, text: Option<&str>, surfaces: u32) -> Result<Option<TolBox>, TolFault>
+    ensures { IfOk result (λ toler. IsBox (surfaces - 1) (values.tolerances toler)) }
+{
+    match text {
+        Some(text) => Ok(Some(read_tol(alloc, text.as_bytes(), surfaces)?)),
+        None => Ok(None),
+    }
+}
+
 /// The setup and the job of the texts; none where one of them is refused.
 pub(crate) fn joined(alloc: Global, texts: &Texts) -> Option<(Setup, Job)>
     ensures well { IfSome result (λ v. IsWellFormed v.0) }
     ensures range { IfSome result (λ v. IsInRange v.1) }
 {
-    let file = read_zmx(alloc, texts.lens.as_bytes()).ok()?;
-    let book = read_agf(alloc, GLASSES.as_bytes()).ok()?;
-    let job = read_job(alloc, texts.job.as_bytes()).ok()?;
+    let file = lens_of(alloc, texts.lens)?;
+    let job = job_of(alloc, texts.job)?;
     let surfaces = file.lens.surfaces.len() as u32;
-    let tolerances = match texts.tolerances {
-        Some(text) => Some(read_tol(alloc, text.as_bytes(), surfaces).ok()?),
-        None => None,
+    let Ok(toler) = box_of(alloc, texts.tolerances, surfaces) else {
+        return None;
     };
-    let setup = join(file.lens, &book, &job, tolerances).ok()?;
-    Some((setup, job))
+    let Ok(book) = read_agf(alloc, GLASSES.as_bytes()) else {
+        return None;
+    };
+    match join(file.lens, &book, &job, toler) {
+        Ok(setup) => Some((setup, job)),
+        Err(_) => None,
+    }
 }

@@ -1,6 +1,6 @@
 //! Rays through a triplet, an even asphere, two mirrors and a plate.
 
-ghost use Rattle.std.specs.Prelude.{◌≡◌, ◌≤◌, ◌<◌};
+ghost use Rattle.std.specs.Prelude.{◌≤◌};
 
 use crate::files::Texts;
 use crate::rows;
@@ -8,37 +8,17 @@ use crate::walk::walked;
 use enclose::arith::Arith;
 use enclose::iv::Iv;
 use forms::form::Form;
-use sagform::steps::Steps;
 use std::alloc::Global;
-use std::marker::Brand;
 use std::process::Abort;
-use std::sync::ledger::{Blank, Ledger};
 use std::test::Fail;
 
 /// Asserts what the rays of these texts do, in this arithmetic.
-fn expect_by<R: Abort, T: Arith, L: Ledger>(
-    rt: &R,
-    alloc: Global,
-    texts: &Texts,
-    due: &str,
-    blank: Blank,
-) -> Result<(), Fail>
-    requires scale { T.SCALE ≤ 15 }
-    requires name { blank.name ≡ L.name }
-    requires parts { blank.parts ≡ L.parts }
-    requires some { 0 < L.parts }
-{
-    let mut steps = Steps::<L>::start(blank);
-    let done = walked::<T, L>(alloc, texts, &mut steps)?;
-    assert_eq!(rt; done.as_str(), due, "scale {}", T::SCALE);
-    Ok(())
-}
-
-/// The same over a ledger of its own.
 fn expect<R: Abort, T: Arith>(rt: &R, alloc: Global, texts: &Texts, due: &str) -> Result<(), Fail>
     requires { T.SCALE ≤ 15 }
 {
-    expect_by::<R, T, Brand>(rt, alloc, texts, due, Blank::new(1))
+    let done = walked::<T>(alloc, texts)?;
+    assert_eq!(rt; done.as_str(), due, "scale {}", T::SCALE);
+    Ok(())
 }
 
 /// Asserts what the rays of these texts do at the scales 6, 9, 12 and 15, in intervals.

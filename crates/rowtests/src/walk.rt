@@ -1,6 +1,6 @@
 //! The walk of a ray, phase by phase.
 
-ghost use Rattle.std.specs.Prelude.{◌≤◌, IsTrue};
+ghost use Rattle.std.specs.Prelude.{◌≡◌, ◌<◌, ◌≤◌, IsTrue};
 ghost use Rattle.std.specs.List.{All};
 ghost use Rattle.lensmodel.specs.Setup.Ranges.{is_ask};
 ghost use Rattle.lensmodel.specs.Setup.Values as values;
@@ -22,7 +22,8 @@ use sagform::steps::Steps;
 use skewtrace::start::start;
 use spotfan::launch::{count, launch};
 use std::alloc::Global;
-use std::sync::ledger::Ledger;
+use std::marker::Brand;
+use std::sync::ledger::{Blank, Ledger};
 use std::test::Fail;
 
 /// The ray that leaves a point in a direction.
@@ -112,17 +113,28 @@ fn walk_all<T: Arith, L: Ledger>(
 }
 
 /// What the rays of these texts do.
-pub(crate) fn walked<T: Arith, L: Ledger>(
+fn walked_by<T: Arith, L: Ledger>(
     alloc: Global,
     texts: &Texts,
-    steps: &mut Steps<L>,
+    blank: Blank,
 ) -> Result<String, Fail>
-    requires { T.SCALE ≤ 15 }
+    requires scale { T.SCALE ≤ 15 }
+    requires name { blank.name ≡ L.name }
+    requires parts { blank.parts ≡ L.parts }
+    requires some { 0 < L.parts }
 {
+    let mut steps = Steps::<L>::start(blank);
     let mut out = String::new(alloc);
     let (setup, job) = joined(alloc, texts).ok_or("a text is refused")?;
     for ask in job.asks.as_slice() {
-        walk_all::<T, L>(alloc, &setup, ask, steps, &mut out)?;
+        walk_all::<T, L>(alloc, &setup, ask, &mut steps, &mut out)?;
     }
     Ok(out)
+}
+
+/// The same over a ledger of its own.
+pub(crate) fn walked<T: Arith>(alloc: Global, texts: &Texts) -> Result<String, Fail>
+    requires { T.SCALE ≤ 15 }
+{
+    walked_by::<T, Brand>(alloc, texts, Blank::new(1))
 }
